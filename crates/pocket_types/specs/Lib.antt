@@ -1,0 +1,5 @@
+pub mod Causes
+pub mod Json
+pub mod Names
+pub mod World
+pub mod formers
