@@ -9,7 +9,7 @@ use lib.Seq.{set-get_or}
 use prog.Atomic.{either}
 use Rattle.std.proofs.Math.Nat.{mod-eq_of_lt}
 use Rattle.std.proofs.lemmas.List.{set_comm}
-use Rattle.atomic_table.specs.Table.{State, step, Act, keeps, takes, gives, rest, Valid, carried_after, stepped, Allows, Splits, Joins, opening as opening_of}
+use Rattle.atomic_table.specs.Table.{State, step, Act, keeps, takes, gives, Valid, carried_after, stepped, Allows, Splits, Joins, opening as opening_of}
 use Rattle.atomic_table.proofs.Lists.{at_set, set_else, at_longer}
 use Rattle.pocket_desk.specs.declared.view.Entry.{Entry}
 use Rattle.pocket_desk.specs.declared.view.Call.{Call}
@@ -185,12 +185,11 @@ module _ {M W R O : Type 0} (opening : M → O) (history : M → List W) (opened
         λ call' says'. ap (λ z. (answered v (unwrap_or z call), [])) (sym says ∙ says'),
       )
 
-  pub adds_to_serving : (slots id : ℕ) (m m' : Mine M W R) (machine : M) (t : ℕ) (said : Option (Call W R)) (call : Call W R) → m.1 ≡ (0, None) ∷ [] → m' ≡ (m.0, (0, Some machine) ∷ rest m.1) → m.0.stage ≡ Serving t
+  pub adds_to_serving : (slots id : ℕ) (m : Mine M W R) (machine : M) (t : ℕ) (said : Option (Call W R)) (call : Call W R) → m.1 ≡ (0, Some machine) ∷ [] → m.0.stage ≡ Serving t
       → (opening machine ≡ opening opened) × (history machine ≡ works m.0.seen) → said ≡ Some call
-      → Allows (LockHolds opening history opened) slots id m' 1 (λ n. (n + 1) % 2 ^ 64) (AddsToServing said (step slots 1 1 0 none) m')
-  adds_to_serving slots id m m' machine t said call slot filled serves fresh says =
-      let e : m' ≡ (m.0, (0, Some machine) ∷ []) = filled ∙ ap (λ c. (m.0, (0, Some machine) ∷ rest c)) slot in
-      subst (λ (x : Mine M W R). Allows (LockHolds opening history opened) slots id x 1 (λ n. (n + 1) % 2 ^ 64) (AddsToServing said (step slots 1 1 0 none) x)) (sym e)
+      → Allows (LockHolds opening history opened) slots id m 1 (λ n. (n + 1) % 2 ^ 64) (AddsToServing said (step slots 1 1 0 none) m)
+  adds_to_serving slots id m machine t said call slot serves fresh says =
+      subst (λ (c : List (ℕ × Option M)). Allows (LockHolds opening history opened) slots id (m.0, c) 1 (λ n. (n + 1) % 2 ^ 64) (AddsToServing said (step slots 1 1 0 none) (m.0, c))) (sym slot)
       (adds_to_serving_at slots id m.0 machine t said call serves fresh.0 fresh.1 says)
 
   -- the slot goes home with no machine, for good

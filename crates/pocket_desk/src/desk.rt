@@ -138,8 +138,8 @@ impl<M: Machine + Send> Desk<M> {
         let Desk { table } = self;
         let Pass { mut seat } = pass;
         let lock = &table.shared;
-        let ticket = take_ticket(rt, lock, &mut seat);
-        await_turn(rt, lock, &mut seat, ticket);
+        let last = take_ticket(rt, lock, &mut seat);
+        await_turn(rt, lock, &mut seat, last);
         let machine = take_machine(lock, &mut seat);
         lock.load::<Close>(&mut seat, SERVING);
         let mut closed = table.close_with(seat);

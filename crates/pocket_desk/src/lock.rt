@@ -5,11 +5,13 @@ use atomic_table::{Join, Play, Seat, Shared, Split, TableRule};
 use std::marker::{Brand, PhantomData};
 use std::snapshot::Snapshot;
 
-/// The words are `ticket`, the next to be taken, `serving`, whose turn it is, and `length`, of the history.
+/// The word that has the next ticket to be taken.
 pub const TICKET: usize = 0;
 
+/// The word that has the ticket whose turn it is.
 pub const SERVING: usize = 1;
 
+/// The word that has the number of entries of the history.
 pub const LENGTH: usize = 2;
 
 pub struct LockRule<M> {

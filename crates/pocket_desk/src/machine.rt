@@ -24,6 +24,7 @@ pub trait Machine {
     // With this reply the work is entered into the history.
     ghost enters: { Opening → List Self.Work → Self.Work → Self.Reply → Type 0 };
 
+    /// Answers a work, and adds it at the end of the history or not at all.
     fn serve(&mut self, work: Self::Work) -> Self::Reply
         ensures fits { fits (opening self.old) (history self.old) work result (has_risen (faults self.old) (faults self.new)) }
         ensures adds { AddsWhere (enters (opening self.old) (history self.old) work result) (history self.old) work (history self.new) }

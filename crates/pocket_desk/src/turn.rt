@@ -3,7 +3,7 @@ ghost use Rattle.std.specs.Prelude.{◌≡◌, ℕ, ◌+◌, ◌^◌, ◌<◌, [
 ghost use Rattle.std.specs.Bool.{OnTrue};
 ghost use Rattle.pocket_desk.specs.View.{entered, answered, call_of};
 ghost use Rattle.pocket_desk.specs.Steps.{GetsTurn};
-ghost use Rattle.pocket_desk.specs.Turn.{IsSeatOf, IsSameSeat, IsIdle, IsWaiting, HasTicketFrom, HoldsSlot, IsServing, IsUpToDate, HasTurn, IsServed};
+ghost use Rattle.pocket_desk.specs.Turn.{IsSeatOf, IsSameSeat, IsIdle, IsWaiting, HasTicketFrom, HoldsSlot, IsServing, HasTurn, IsServed};
 
 use crate::lock::{
     AddToLength, AddToServing, LENGTH, Lock, LockSeat, LookAtServing, SERVING, Said, TICKET,
@@ -81,25 +81,31 @@ fn add_entry<M: Machine, A: Said<M::Work>>(
     }
 }
 
-// Puts the machine home, keeps the call, and gives the turn on.
+// Puts the machine back into the slot.
+fn put_machine<M: Machine>(lock: &Lock<M>, seat: &mut LockSeat<M>, machine: M)
+    requires seat { IsSeatOf lock.now.table_id seat.old }
+    requires slot { HoldsSlot None seat.old }
+    ensures seat { IsSameSeat seat.old seat.new × (seat.new.me.0 ≡ seat.old.me.0) }
+    ensures slot { HoldsSlot (Some machine) seat.new }
+{
+    let left = lock.exchange(seat, 0, Some(machine));
+    let None = left else { unreachable!() };
+}
+
+// Keeps the call, and gives the turn on with the slot, in which the machine is up to date.
 fn end_turn<M: Machine, A: Said<Call<M::Work, M::Reply>>>(
     lock: &Lock<M>,
     seat: &mut LockSeat<M>,
-    machine: M,
     position: u64,
     asked: &Snapshot<M::Work>,
     reply: &M::Reply,
 )
     requires seat { IsSeatOf lock.now.table_id seat.old }
-    requires turn { IsServing seat.old }
-    requires slot { HoldsSlot None seat.old }
-    requires machine { IsUpToDate M.opening M.history (M.opening lock.now.key.value) machine seat.old }
+    requires turn { HasTurn M.opening M.history lock.now.key.value seat.old }
     requires said { A.said ≡ Some (call_of position asked.now.value reply.now) }
     ensures seat { IsSameSeat seat.old seat.new }
     ensures view { seat.new.me ≡ (answered seat.old.me.0 (call_of position asked.now.value reply.now), []) }
 {
-    let left = lock.exchange(seat, 0, Some(machine));
-    let None = left else { unreachable!() };
     lock.fetch_add::<AddToServing<A>>(seat, SERVING, 1);
 }
 
@@ -115,6 +121,7 @@ pub fn serve<M: Machine>(lock: &Lock<M>, seat: &mut LockSeat<M>, work: M::Work) 
     let reply = machine.serve(work);
     let grew = machine.length() > position;
     add_entry::<M, Brand>(lock, seat, grew, &asked);
-    end_turn::<M, Brand>(lock, seat, machine, position, &asked, &reply);
+    put_machine(lock, seat, machine);
+    end_turn::<M, Brand>(lock, seat, position, &asked, &reply);
     reply
 }
