@@ -6,7 +6,7 @@ use Rattle.pocket_desk.specs.declared.view.Entry.{Entry}
 abbrev pub BeginsWith : {A : Type 0} → List A → List A → Type 0
 BeginsWith {A} list beginning = (rest : List A) × (list ≡ beginning ++ rest)
 
--- whose turn it is to give a pass this number: one of every `stride` numbers
+-- the number is its own, or one that it may give away: every `stride`th one after its own
 abbrev pub Owns : ℕ → ℕ → ℕ → Type 0
 Owns number stride n = n % stride ≡ number
 

@@ -13,7 +13,7 @@ use std::marker::Model;
 use std::snapshot::Snapshot;
 use std::sync::Wait;
 
-/// A machine that any number of threads share. It is served one call at a time, in the order of tickets.
+/// A machine that any number of threads share. It serves one call at a time, in the order of tickets.
 ///
 /// Contracts see it as its `name` and the machine as it was when it was `opened`.
 pub struct Desk<M: Machine + Send> {
@@ -26,16 +26,17 @@ impl<M: Machine + Send> Model for Desk<M> {
 
     ghost Value = { DeskView M };
 
-    ghost view = { λ d. record { name = desk_name d.table.shared.table_id d.table.shared.key.value; opened = d.table.shared.key.value } };
+    ghost view = { λ d. let lock = d.table.shared in
+        record { name = desk_name lock.table_id lock.key.value; opened = lock.key.value } };
 
     ghost invariant = { λ d. (d.table.shared.table_id.words ≡ 3) × (d.table.shared.table_id.slots ≡ 1) };
 }
 
 /// What one caller has seen of a desk's history. It has no bytes, and may go to another thread.
 ///
-/// Contracts see it as the name of its `desk`, its own `number`, the entries that it has `seen`, the works that are
-/// `mine`, which it brought and the machine entered, and all its `calls`. A pass that is dropped can't be had again,
-/// and its desk can then be closed by another pass alone.
+/// Contracts see it as the name of its `desk`, its own `number`, the entries that it has `seen`, the
+/// works that are `mine`, which came by it and were entered, and all its `calls`. A desk is closed with
+/// a pass, so keep the last one.
 #[derive(Drop)]
 pub struct Pass<M: Machine + Send> {
     seat: LockSeat<M>,
@@ -87,12 +88,13 @@ impl<M: Machine + Send> Desk<M> {
         }
     }
 
-    /// Has the machine serve a work. It waits, and yields while it does, until the calls that came before have been
-    /// served. The reply is the machine's own, so a desk refuses nothing.
+    /// Has the machine serve a work. It waits, and yields while it does, until the calls that came before
+    /// have been served. The reply is the machine's own: a desk refuses nothing.
     pub fn call(&self, rt: &impl Wait, pass: Pass<M>, work: M::Work) -> (Pass<M>, M::Reply)
         requires { IsOf self.now pass }
         ensures desk { IsOf self.now result.0 }
-        ensures call { IsCall (M.fits (M.opening self.now.opened)) (M.enters (M.opening self.now.opened)) pass work result.0 result.1 }
+        ensures call { IsCall (M.fits (M.opening self.now.opened)) (M.enters (M.opening self.now.opened))
+            pass work result.0 result.1 }
         ensures own { KnowsOwnWorks result.0 }
     {
         let lock = &self.table.shared;

@@ -1,4 +1,5 @@
-//! One machine, served to any number of threads one call at a time, and passes that know what they have seen of its history.
+//! One machine that serves any number of threads, one call at a time, and passes that know what they have
+//! seen of its history.
 #![tactic(auto)]
 
 mod desk;

@@ -1,4 +1,5 @@
-// The rule of the lock, and what each step tells the seat that steps. These types are for the proofs alone.
+// The lock's words, its rule, and what each step tells the seat that steps. The types are for the proofs
+// alone.
 use crate::machine::Machine;
 use crate::view::{Call, View};
 use atomic_table::{Join, Play, Seat, Shared, Split, TableRule};

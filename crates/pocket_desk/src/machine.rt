@@ -18,7 +18,8 @@ pub trait Machine {
     // How often something outside failed, as far as it counts that.
     ghost faults: { Self → ℕ };
 
-    // A reply fits an opening, the history before, a work, and whether the count of faults rose in the call.
+    // A reply fits an opening, the history before, a work, and whether the count of faults rose in the
+    // call.
     ghost fits: { Opening → List Self.Work → Self.Work → Self.Reply → Bool → Type 0 };
 
     // With this reply the work is entered into the history.
@@ -26,8 +27,10 @@ pub trait Machine {
 
     /// Answers a work, and adds it at the end of the history or not at all.
     fn serve(&mut self, work: Self::Work) -> Self::Reply
-        ensures fits { fits (opening self.old) (history self.old) work result (has_risen (faults self.old) (faults self.new)) }
-        ensures adds { AddsWhere (enters (opening self.old) (history self.old) work result) (history self.old) work (history self.new) }
+        ensures fits { fits (opening self.old) (history self.old) work result
+            (has_risen (faults self.old) (faults self.new)) }
+        ensures adds { AddsWhere (enters (opening self.old) (history self.old) work result)
+            (history self.old) work (history self.new) }
         ensures opening { opening self.new ≡ opening self.old }
         ensures faults { faults self.old ≤ faults self.new };
 

@@ -74,7 +74,9 @@ fn add_entry<M: Machine, A: Said<M::Work>>(
     requires said { A.said ≡ Some asked.now.value }
     requires room { OnTrue grew (length seat.old.me.0.seen + 1 < 2 ^ 64) }
     ensures seat { IsSameSeat seat.old seat.new }
-    ensures view { MatchBool grew (seat.new.me ≡ (entered seat.old.me.0 asked.now.value, seat.old.me.1)) (seat.new.me ≡ seat.old.me) }
+    ensures view { MatchBool grew
+        (seat.new.me ≡ (entered seat.old.me.0 asked.now.value, seat.old.me.1))
+        (seat.new.me ≡ seat.old.me) }
 {
     if grew {
         lock.fetch_add::<AddToLength<A>>(seat, LENGTH, 1);
@@ -113,7 +115,8 @@ fn end_turn<M: Machine, A: Said<Call<M::Work, M::Reply>>>(
 pub fn serve<M: Machine>(lock: &Lock<M>, seat: &mut LockSeat<M>, work: M::Work) -> M::Reply
     requires seat { IsSeatOf lock.now.table_id seat.old }
     requires turn { HasTurn M.opening M.history lock.now.key.value seat.old }
-    ensures { IsServed (M.fits (M.opening lock.now.key.value)) (M.enters (M.opening lock.now.key.value)) seat.old work seat.new result }
+    ensures { IsServed (M.fits (M.opening lock.now.key.value)) (M.enters (M.opening lock.now.key.value))
+        seat.old work seat.new result }
 {
     let mut machine = take_machine(lock, seat);
     let asked = Snapshot::of(&work);
