@@ -15,7 +15,8 @@ use std::sync::Wait;
 
 /// A machine that any number of threads share. It serves one call at a time, in the order of tickets.
 ///
-/// Contracts see it as its `name` and the machine as it was when it was `opened`.
+/// Contracts see it as its `name` and the machine as it was when it was `opened`. It isn't dropped: `close`
+/// gives the machine back.
 pub struct Desk<M: Machine + Send> {
     table: Table<Option<M>, View<M, M::Work, M::Reply>, Snapshot<M>, LockRule<M>, Global>,
 }

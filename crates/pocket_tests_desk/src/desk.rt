@@ -1,6 +1,6 @@
 // A machine that counts, served to two threads and to eight.
 ghost use Rattle.std.specs.Prelude.{◌+◌, ◌^◌, ◌<◌, ◌≤◌};
-ghost use denote.Param.Send.{IsSync};
+ghost use denote.Param.Send.{IsSend, IsSync};
 ghost use Rattle.pocket_desk.specs.Pass.{IsOf};
 
 use pocket_desk::{Desk, Machine, Pass};
@@ -46,12 +46,12 @@ impl Machine for Counter {
 }
 
 // Two calls, whose works are the number doubled and the next.
-fn call_twice<R: Wait>(
+fn call_twice<M: Machine<Work = u64, Reply = Option<u64>> + Send, R: Wait>(
     rt: &R,
-    desk: &Desk<Counter>,
-    pass: Pass<Counter>,
+    desk: &Desk<M>,
+    pass: Pass<M>,
     number: u32,
-) -> Pass<Counter>
+) -> Pass<M>
     requires { IsOf desk.now pass }
     ensures { IsOf desk.now result }
 {
@@ -61,14 +61,15 @@ fn call_twice<R: Wait>(
     pass
 }
 
-// Two calls by each of so many threads, which are numbered from `first` on.
-fn call_by<R: Threads + Wait + Sync>(
+// Two calls by each of so many threads, which are numbered from `first` on, at any machine that may go to
+// another thread.
+fn call_by<M: Machine<Work = u64, Reply = Option<u64>> + Send, R: Threads + Wait + Sync>(
     rt: &R,
-    desk: &Desk<Counter>,
-    pass: Pass<Counter>,
+    desk: &Desk<M>,
+    pass: Pass<M>,
     first: u32,
     threads: u32,
-) -> Pass<Counter>
+) -> Pass<M>
     requires { (first + threads < 2 ^ 32) × IsOf desk.now pass }
     ensures { IsOf desk.now result }
 {
@@ -79,12 +80,13 @@ fn call_by<R: Threads + Wait + Sync>(
     let (one, two) = desk.split(pass);
     let (one, two) = join(
         rt,
-        || -> Pass<Counter>
-            requires { IsSync R.row × (first + half < 2 ^ 32) × IsOf desk.now one }
+        || -> Pass<M>
+            requires { IsSync R.row × IsSend M.row × (first + half < 2 ^ 32) × IsOf desk.now one }
             ensures { IsOf desk.entry.now result }
         { call_by(rt, desk, one, first, half) },
-        || -> Pass<Counter>
-            requires { IsSync R.row × (half ≤ threads) × (first + threads < 2 ^ 32) × IsOf desk.now two }
+        || -> Pass<M>
+            requires { IsSync R.row × IsSend M.row × (half ≤ threads) × (first + threads < 2 ^ 32)
+                × IsOf desk.now two }
             ensures { IsOf desk.entry.now result }
         { call_by(rt, desk, two, first + half, threads - half) },
     );
