@@ -72,6 +72,7 @@ impl<M: Machine + Send> Desk<M> {
         requires { M.history machine ≡ [] }
         ensures opened { IfOk result (λ r. r.0.opened ≡ machine) }
         ensures pass { IfOk result (λ r. IsOf r.0 r.1 × IsNew r.1) }
+        ensures own { IfOk result (λ r. KnowsOwnWorks r.1) }
         ensures refused { IfErr result (λ e. e.1 ≡ machine) }
     {
         let opened = Snapshot::of(&machine);
