@@ -1,0 +1,5 @@
+//! Tests of the desk: threads call a machine that counts.
+#![tactic(auto)]
+
+#[cfg(test)]
+mod desk;
