@@ -1,0 +1,47 @@
+ghost use Rattle.std.specs.Prelude.{◌≡◌, ◌≢◌, ◌++◌, ◌<◌, ◌≤◌, ◌==◌, ℕ, List, [], ◌∷◌, codes, length, MatchOption};
+ghost use Rattle.std.specs.List.{list_all, before_first, after_first};
+ghost use Rattle.pocket_wire.specs.Requests.{IsViewTarget, is_segment, is_segment_byte};
+
+fn is_segment_char(byte: u8) -> bool
+    ensures { result ≡ is_segment_byte byte }
+{
+    byte != b'/' && byte != b'?'
+}
+
+fn are_segment_chars(bytes: &[u8]) -> bool
+    ensures { result ≡ list_all is_segment_byte bytes.now }
+{
+    bytes.iter().all(|byte| is_segment_char(*byte))
+}
+
+fn has_segment_form(bytes: &[u8]) -> bool
+    ensures { result ≡ is_segment bytes.now }
+{
+    let chars = are_segment_chars(bytes);
+    !bytes.is_empty() && chars
+}
+
+/// What follows a front, where the text begins with it.
+fn after<'a>(text: &'a str, front: &str) -> Option<&'a str>
+    ensures { MatchOption result ((rest : List ℕ) → text.now ≢ front.now ++ rest) (λ rest. text.now ≡ front.now ++ rest.now) }
+{
+    text.strip_prefix(front)
+}
+
+/// The collection and the id that a target names, where it is that of a view of a record. They needn't be of a name's and
+/// an id's form.
+pub fn view_segments(target: &str) -> Option<(&str, &str)>
+    ensures { MatchOption result ((collection : List ℕ) (id : List ℕ) → ¬ (IsViewTarget target.now collection id))
+        (λ found. IsViewTarget target.now found.0.now found.1.now) }
+{
+    let rest = after(target, "/api/collections/")?;
+    let (collection, rest) = rest.split_once('/')?;
+    let id = after(rest, "records/")?;
+    let first = has_segment_form(collection.as_bytes());
+    let last = has_segment_form(id.as_bytes());
+    if first && last {
+        Some((collection, id))
+    } else {
+        None
+    }
+}
