@@ -12,7 +12,7 @@ abbrev pub IsReplyStatus : ℕ → Type 0
 IsReplyStatus status = IsTrue (list_any (λ s. s == status) reply_statuses)
 
 -- the phrase of a status
-abbrev pub phrase : ℕ → List ℕ
+unfoldable pub phrase : ℕ → List ℕ
 phrase status = unwrap_or (reason_phrase status) []
 
 -- the end of a line

@@ -6,6 +6,7 @@ use pocket_types::Seq;
 use std::alloc::{AllocError, Global};
 
 /// The phrase of a status that a reply has.
+#[tactic(auto, unfolding(crate::specs::Phrases::phrase))]
 pub fn status_phrase(status: u16) -> &'static str
     requires { IsReplyStatus status }
     ensures { result.now ≡ phrase status }

@@ -1,5 +1,5 @@
-ghost use Rattle.std.specs.Prelude.{◌≡◌, ◌≢◌, ◌++◌, ◌<◌, ◌≤◌, ◌==◌, ℕ, List, [], ◌∷◌, codes, length, MatchOption};
-ghost use Rattle.std.specs.List.{list_all, before_first, after_first};
+ghost use Rattle.std.specs.Prelude.{◌≡◌, ◌≢◌, ◌++◌, ◌<◌, ℕ, List, ◌∷◌, length, slice_index, MatchOption};
+ghost use Rattle.std.specs.List.{list_all};
 ghost use Rattle.pocket_wire.specs.Requests.{IsViewTarget, is_segment, is_segment_byte};
 
 fn is_segment_char(byte: u8) -> bool
@@ -28,6 +28,15 @@ fn after<'a>(text: &'a str, front: &str) -> Option<&'a str>
     text.strip_prefix(front)
 }
 
+/// The text before the first `/` and the text after it.
+fn around_slash(text: &str) -> Option<(&str, &str)>
+    ensures { MatchOption result ((k : ℕ) → k < length text.now → slice_index text.now k ≢ 47)
+        (λ parts. (text.now ≡ parts.0.now ++ 47 ∷ parts.1.now)
+        × ((k : ℕ) → k < length parts.0.now → slice_index parts.0.now k ≢ 47)) }
+{
+    text.split_once('/')
+}
+
 /// The collection and the id that a target names, where it is that of a view of a record. They needn't be of a name's and
 /// an id's form.
 pub fn view_segments(target: &str) -> Option<(&str, &str)>
@@ -35,7 +44,7 @@ pub fn view_segments(target: &str) -> Option<(&str, &str)>
         (λ found. IsViewTarget target.now found.0.now found.1.now) }
 {
     let rest = after(target, "/api/collections/")?;
-    let (collection, rest) = rest.split_once('/')?;
+    let (collection, rest) = around_slash(rest)?;
     let id = after(rest, "records/")?;
     let first = has_segment_form(collection.as_bytes());
     let last = has_segment_form(id.as_bytes());
