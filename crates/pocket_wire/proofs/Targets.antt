@@ -12,7 +12,7 @@ use Rattle.pocket_wire.specs.Requests.{IsViewTarget, is_segment, is_segment_byte
 -- what `strip_prefix` says of texts
 pub stripped : (text front : List ℕ) (r : Option (Bor (List ℕ)))
     → MatchOption r ((rest : List ℕ) → text ≢ front ++ rest)
-        (λ x. (n : ℕ) × ((n ≡ length front) × (text ≡ front ++ drop n text) × IsCharBoundary text (length front)) × (x.now ≡ drop n text) × (length x.now + n ≡ length text))
+    (λ x. (n : ℕ) × ((n ≡ length front) × (text ≡ front ++ drop n text) × IsCharBoundary text (length front)) × (x.now ≡ drop n text) × (length x.now + n ≡ length text))
     → MatchOption r ((rest : List ℕ) → text ≢ front ++ rest) (λ rest. text ≡ front ++ rest.now)
 stripped text front None h = h
 stripped text front (Some x) h = h.1.1 ∙ ap (λ rest. front ++ rest) (sym h.2)
@@ -75,19 +75,16 @@ module _ (target rest : List ℕ) (front : target ≡ codes "/api/collections/" 
     pub no_records : ((id : List ℕ) → last ≢ codes "records/" ++ id) → (collection id : List ℕ) → ¬ (IsViewTarget target collection id)
     no_records other collection id view = other id (parts collection id view).1
 
+    pub only_segments : (name : List ℕ) → last ≡ codes "records/" ++ name → (collection id : List ℕ)
+        → IsViewTarget target collection id → (first ≡ collection) × (name ≡ id)
+    only_segments name behind collection id view =
+        let both = parts collection id view in
+        (both.0, append_cancel_left (codes "records/") _ _ (sym behind ∙ both.1))
+
     pub no_segments : (name : List ℕ) → last ≡ codes "records/" ++ name → (is_segment first && is_segment name) ≡ false
         → (collection id : List ℕ) → ¬ (IsViewTarget target collection id)
     no_segments name behind bad collection id view =
-        let both = parts collection id view in
-        let same : name ≡ id = append_cancel_left (codes "records/") _ _ (sym behind ∙ both.1) in
+        let both = only_segments name behind collection id view in
         let one : is_segment first ≡ true = rw both.0 view.first in
-        let two : is_segment name ≡ true = rw same view.last in
+        let two : is_segment name ≡ true = rw both.1 view.last in
         grind (arith, one, two, bad)
-
-    pub view_of : (name : List ℕ) → last ≡ codes "records/" ++ name → is_segment first ≡ true → is_segment name ≡ true
-        → IsViewTarget target first name
-    view_of name behind one two = record {
-      text = rw (front, cut, behind) refl;
-      first = one;
-      last = two;
-    }

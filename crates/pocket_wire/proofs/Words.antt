@@ -12,7 +12,7 @@ adds_word start calls next is = by (nat_lt calls (2 ^ 64 - 1)) (nat_lt next (2 ^
   where
     by : (v w : Bool) → nat_lt calls (2 ^ 64 - 1) ≡ v → nat_lt next (2 ^ 64 - 1) ≡ w
         → AddsAnswer (if v then Some (counted_words start calls) else None) (if w then Some (counted_words start next) else None)
-            ((start + calls) % 2 ^ 64)
+        ((start + calls) % 2 ^ 64)
     by false w p q = tt
     by true false p q = let len = length-counted_words start calls in grind (arith, len, is, q)
     by true true p q =

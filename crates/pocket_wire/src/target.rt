@@ -1,4 +1,4 @@
-ghost use Rattle.std.specs.Prelude.{◌≡◌, ◌≢◌, ◌++◌, ◌<◌, ℕ, List, ◌∷◌, length, slice_index, MatchOption};
+ghost use Rattle.std.specs.Prelude.{◌≡◌, ◌≢◌, ◌++◌, ◌<◌, ℕ, List, ◌∷◌, length, slice_index, MatchOption, IfSome};
 ghost use Rattle.std.specs.List.{list_all};
 ghost use Rattle.pocket_wire.specs.Requests.{IsViewTarget, is_segment, is_segment_byte};
 
@@ -40,8 +40,10 @@ fn around_slash(text: &str) -> Option<(&str, &str)>
 /// The collection and the id that a target names, where it is that of a view of a record. They needn't be of a name's and
 /// an id's form.
 pub fn view_segments(target: &str) -> Option<(&str, &str)>
-    ensures { MatchOption result ((collection : List ℕ) (id : List ℕ) → ¬ (IsViewTarget target.now collection id))
+    ensures found { MatchOption result ((collection : List ℕ) (id : List ℕ) → ¬ (IsViewTarget target.now collection id))
         (λ found. IsViewTarget target.now found.0.now found.1.now) }
+    ensures only { IfSome result (λ found. (collection : List ℕ) (id : List ℕ) → IsViewTarget target.now collection id
+        → (found.0.now ≡ collection) × (found.1.now ≡ id)) }
 {
     let rest = after(target, "/api/collections/")?;
     let (collection, rest) = around_slash(rest)?;
