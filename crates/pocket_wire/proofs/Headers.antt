@@ -9,7 +9,6 @@ use Rattle.httparse.specs.Grammar.{Field, IsField, is_token_byte}
 use Rattle.httparse.specs.Spans.{header_bytes, name_and_value, span_bytes}
 use Rattle.std.specs.Str.{is_utf8}
 use Rattle.std.proofs.lemmas.Str.{IsUtf8-from_ascii, IsUtf8-from_is_utf8, is_utf8-from_IsUtf8}
-use Rattle.pocket_types.specs.declared.requests.Pair.{Pair}
 use Rattle.pocket_wire.specs.Requests.{header_of, IsAuthorization}
 
 -- a value in UTF-8

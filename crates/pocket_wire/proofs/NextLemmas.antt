@@ -1,5 +1,5 @@
 -- From what bytes are to what comes next.
-use Rattle.std.proofs.Common.{◌≡◌, ◌≤◌, ◌<◌, inl, inr, ℕ, List, [], ◌++◌, length, Option, Result, Ok, Err, IfOk, subst, arith}
+use Rattle.std.proofs.Common.{◌≡◌, ◌≤◌, inl, inr, ℕ, List, [], length, Option, Result, Ok, Err, IfOk, subst, arith}
 use Rattle.std.specs.Io.KnownBytes.{IsAtEnd}
 use Rattle.pocket_wire.specs.Requests.{IsNext, IsNextOf, IsWholeInput}
 use Rattle.pocket_wire.specs.declared.request.Next.{Next}

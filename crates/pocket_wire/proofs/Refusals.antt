@@ -1,5 +1,5 @@
 -- The text of a refusal, piece by piece.
-use Rattle.std.proofs.Common.{◌≡◌, ℕ, List, [], ◌∷◌, ◌++◌, codes, ap, ◌∙◌, append_assoc, decimal}
+use Rattle.std.proofs.Common.{◌≡◌, ℕ, List, ◌++◌, codes, ap, ◌∙◌, append_assoc, decimal}
 use Rattle.pocket_wire.specs.Phrases.{phrase, line_end, status_line, refused_bytes}
 
 regroup : (a d s p e x y : List ℕ)

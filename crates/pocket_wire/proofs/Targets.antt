@@ -1,9 +1,8 @@
 -- The parts of a target.
-use Rattle.std.proofs.Common.{◌≡◌, ◌≢◌, ℕ, zero, suc, ◌+◌, ◌≤◌, ◌<◌, Bool, true, false, List, [], ◌∷◌, ◌++◌, length, drop, get_or, codes, refl, ap, sym, subst, ◌∙◌, arith, Option, Some, None, Bor, MatchOption, IsTrue}
-use Rattle.std.specs.Prelude.{◌&&◌, nat_lt}
+use Rattle.std.proofs.Common.{◌≡◌, ◌≢◌, ℕ, suc, ◌+◌, ◌<◌, Bool, true, false, List, [], ◌∷◌, ◌++◌, length, drop, get_or, codes, refl, ap, sym, subst, ◌∙◌, arith, Option, Some, None, Bor, MatchOption, IsTrue}
+use Rattle.std.specs.Prelude.{◌&&◌}
 use Rattle.std.specs.List.{list_all}
 use Rattle.std.specs.Str.{IsCharBoundary}
-use Rattle.std.specs.Str.Pattern.{LacksTextAt}
 use Rattle.std.proofs.lemmas.List.{append_cancel_left}
 use Rattle.std.proofs.lemmas.List.Sums.{AllPass-from_list_all}
 use Rattle.std.proofs.lemmas.Grind.{common_steps}

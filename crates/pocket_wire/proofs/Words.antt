@@ -1,5 +1,5 @@
 -- The words that dice tell after one more call.
-use Rattle.std.proofs.Common.{◌≡◌, ℕ, zero, suc, ◌+◌, ◌-◌, ◌^◌, ◌%◌, ◌≤◌, ◌<◌, min, nat_lt, Bool, true, false, Option, Some, None, length, length-append, if◌then◌else◌, refl, ap, sym, ◌∙◌, arith, add-one}
+use Rattle.std.proofs.Common.{◌≡◌, ℕ, zero, suc, ◌+◌, ◌-◌, ◌^◌, ◌%◌, min, nat_lt, Bool, true, false, Some, None, length, length-append, if◌then◌else◌, refl, ap, arith}
 use Rattle.pocket_wire.specs.Outside.{AddsAnswer, told, counted_words}
 
 pub length-counted_words : (start n : ℕ) → length (counted_words start n) ≡ n

@@ -1,5 +1,5 @@
 -- The statuses of replies, their phrases, and the reply to a request that isn't read (RFC 9112, section 4).
-use Rattle.std.specs.Prelude.{ℕ, Bool, ◌==◌, List, [], ◌∷◌, ◌++◌, codes, unwrap_or, IsTrue, decimal}
+use Rattle.std.specs.Prelude.{ℕ, ◌==◌, List, [], ◌∷◌, ◌++◌, codes, unwrap_or, IsTrue, decimal}
 use Rattle.std.specs.List.{list_any}
 use Rattle.http.specs.StatusCode.{reason_phrase}
 

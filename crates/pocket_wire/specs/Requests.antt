@@ -1,16 +1,16 @@
 -- The requests that stand in bytes: the form that is built so far, one view of a record.
-use Rattle.std.specs.Prelude.{◌≡◌, ◌≢◌, ℕ, ◌≤◌, ◌<◌, ◌==◌, ◌||◌, not, ◌⊎◌, Bool, true, false, List, [], ◌∷◌, ◌++◌, length, map, flat_map, All, codes, slice_index, Option, if◌then◌else◌, nat_lt, ◌&&◌, IsTrue, ⊤}
+use Rattle.std.specs.Prelude.{◌≡◌, ◌≢◌, ℕ, ◌≤◌, ◌<◌, ◌==◌, ◌||◌, not, ◌⊎◌, Bool, false, List, [], ◌∷◌, ◌++◌, length, map, flat_map, All, codes, slice_index, Option, if◌then◌else◌, nat_lt, ◌&&◌, IsTrue}
 use Rattle.std.specs.List.{list_all}
 use Rattle.std.specs.Char.{to_ascii_lowercase}
 use Rattle.std.specs.Str.{is_utf8}
 use Rattle.std.specs.Io.KnownBytes.{IsAtEnd}
-use Rattle.httparse.specs.Grammar.{Field, RequestHead, ReadsRequest}
+use Rattle.httparse.specs.Grammar.{RequestHead, ReadsRequest}
 use Rattle.httparse.specs.Spans.{name_and_value}
 use Rattle.pocket_types.specs.declared.requests.Pair.{Pair}
 use Rattle.pocket_types.specs.declared.requests.Method.TheVariants.{Get}
 use Rattle.pocket_wire.specs.declared.request.Request.{Request}
 use Rattle.pocket_wire.specs.declared.request.Ended.{Ended}
-use Rattle.pocket_wire.specs.declared.request.Ended.TheVariants.{Done, Closed, Refused, Truncated, Limit, SourceFault, SinkFault, Memory}
+use Rattle.pocket_wire.specs.declared.request.Ended.TheVariants.{Done, Refused}
 use Rattle.pocket_wire.specs.declared.request.Next.{Next}
 use Rattle.pocket_wire.specs.declared.request.Next.TheVariants as next
 

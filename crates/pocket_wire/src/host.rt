@@ -1,4 +1,7 @@
-ghost use Rattle.std.specs.Prelude.{◌≡◌, None, pos};
+ghost use Rattle.std.specs.Prelude.{◌≡◌, ◌<◌, None, IfOk, length, pos};
+ghost use Rattle.std.specs.Io.{ReadsAtMost, WritesAtMost};
+ghost use Rattle.std.specs.Io.KnownBytes.{ReadConsumes, WriteAppends};
+ghost use Rattle.pocket_types.specs.Causes.{HasCause};
 
 use crate::clock::Clock;
 use crate::dice::Dice;
@@ -23,7 +26,11 @@ impl<R: Read> Source for HostSource<R> {
 
     ghost untouched = { λ _. (None, 0) };
 
-    fn read(&mut self, buffer: &mut [u8]) -> Result<usize, Failed> {
+    fn read(&mut self, buffer: &mut [u8]) -> Result<usize, Failed>
+        ensures bound { ReadsAtMost result buffer.new }
+        ensures cause { HasCause self.old.faults self.new.faults result }
+        ensures passes { ReadConsumes (R.remaining self.old.inner) (R.remaining self.new.inner) result buffer.new }
+    {
         match self.inner.read(buffer) {
             Ok(count) => Ok(count),
             Err(_) => {
@@ -48,7 +55,12 @@ impl<W: Write> Sink for HostSink<W> {
 
     ghost untouched = { λ _. (None, 0) };
 
-    fn write(&mut self, piece: &[u8]) -> Result<usize, Failed> {
+    fn write(&mut self, piece: &[u8]) -> Result<usize, Failed>
+        ensures bound { WritesAtMost result piece.now }
+        ensures some { 0 < length piece.now → IfOk result (λ n. 0 < n) }
+        ensures cause { HasCause self.old.faults self.new.faults result }
+        ensures passes { WriteAppends (W.contents self.old.inner) (W.contents self.new.inner) result piece.now }
+    {
         match self.inner.write(piece) {
             Ok(count) if count > 0 || piece.is_empty() => Ok(count),
             _ => {
@@ -92,7 +104,9 @@ fn system_moment<R: SystemClock>(rt: &R) -> Option<Moment> {
 impl<R: SystemClock> Clock for HostClock<R> {
     ghost answers = { λ _. None };
 
-    fn now(&mut self) -> Moment {
+    fn now(&mut self) -> Moment
+        ensures { result ≡ self.new.last }
+    {
         if let Some(moment) = system_moment(&self.rt) {
             self.last = moment;
         }
@@ -120,7 +134,9 @@ impl<R> HostDice<R> {
 impl<R: RandomSource> Dice for HostDice<R> {
     ghost answers = { λ _. None };
 
-    fn word(&mut self) -> u64 {
+    fn word(&mut self) -> u64
+        ensures { result ≡ self.new.last }
+    {
         let mut bytes = [0; 8];
         if self.rt.fill_bytes(&mut bytes).is_ok() {
             self.last = u64::from_le_bytes(bytes);

@@ -1,4 +1,4 @@
-use Rattle.std.proofs.Common.{◌≡◌, ℕ, List, sym, ◌∙◌}
+use Rattle.std.proofs.Common.{sym, ◌∙◌}
 use Rattle.pocket_wire.proofs.Headers.{header_of-text, header_of-none}
 use Rattle.pocket_wire.proofs.head.header.Goals as goal
 

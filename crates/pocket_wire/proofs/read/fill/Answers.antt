@@ -1,4 +1,3 @@
-use Rattle.std.proofs.Common.{◌++◌, take}
 use Rattle.pocket_wire.proofs.Told.{consumes_through}
 use Rattle.pocket_wire.proofs.read.fill.Goals as goal
 

@@ -1,4 +1,4 @@
-use Rattle.std.proofs.Common.{◌≡◌, ◌++◌, ℕ, List, ap, ◌∙◌}
+use Rattle.std.proofs.Common.{◌≡◌, ◌++◌, ℕ, List, [], ap, ◌∙◌}
 use Rattle.pocket_wire.proofs.NextLemmas.{next_is}
 use Rattle.pocket_wire.proofs.read.next_request.Goals as goal
 
@@ -9,5 +9,5 @@ returns-clause-next g c =
     let all : c.fill.new.bytes.items ≡ c.args.inbox.now.left ++ got.0 = ◌∙◌ {A = List ℕ} got.2 (ap (λ s. s ++ got.0) start) in
     let same : c.deref.result.now ≡ c.args.inbox.now.left ++ got.0 = c.deref.ensures.value ∙ all in
     let whole = rw (← c.deref.ensures.value) at c.in_ok-fill.ensures.whole in
-    let kept = c.replace.ensures.after ∙ c.new.ensures in
-    (got.0, got.1, next_is c.deref.result.now _ _ _ c.next_of.result same c.next_of.ensures.next whole kept)
+    let kept : c.replace.new.dest ≡ [] = c.replace.ensures.after ∙ c.new.ensures in
+    (got.0, got.1, next_is c.deref.result.now (c.args.inbox.now.left ++ got.0) (g.S.Source.left c.fill.new.source) c.replace.new.dest c.next_of.result same c.next_of.ensures.next whole kept)

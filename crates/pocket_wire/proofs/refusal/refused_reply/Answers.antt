@@ -1,4 +1,4 @@
-use Rattle.std.proofs.Common.{◌≡◌, ℕ, Vec, Global, ap, ◌∙◌}
+use Rattle.std.proofs.Common.{ℕ, Vec, Global, ap, ◌∙◌}
 use Rattle.pocket_wire.proofs.Refusals.{refusal_is}
 use Rattle.pocket_wire.proofs.refusal.refused_reply.Goals as goal
 

@@ -1,5 +1,5 @@
-use Rattle.std.proofs.Common.{rules, arith, ◌≡◌, ◌≤◌, ◌<◌, ℕ, List, []}
-use Rattle.pocket_wire.specs.Phrases.{IsReplyStatus, phrase}
+use Rattle.std.proofs.Common.{arith, ◌≤◌, ◌<◌, ℕ}
+use Rattle.pocket_wire.specs.Phrases.{IsReplyStatus}
 use Rattle.pocket_wire.proofs.refusal.status_phrase.Goals as goal
 
 in_range : (status : ℕ) → IsReplyStatus status → (100 ≤ status) × (status < 1000)

@@ -1,6 +1,5 @@
-use Rattle.std.proofs.Common.{rules, arith, ◌≡◌, ◌≤◌, List, ℕ, ◌+◌, ◌-◌, ◌++◌, take, drop, length, refl, sym, ◌∙◌, length-drop}
+use Rattle.std.proofs.Common.{arith, ◌≡◌, List, ℕ, ◌-◌, take, drop, length, ◌∙◌}
 use Rattle.std.proofs.lemmas.Grind.{common_steps}
-use Rattle.std.specs.Io.KnownBytes.{Appends}
 use Rattle.pocket_wire.proofs.Told.{appends_piece}
 use Rattle.pocket_wire.proofs.write.write_all.Goals as goal
 

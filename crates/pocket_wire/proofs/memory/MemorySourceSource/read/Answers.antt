@@ -1,4 +1,4 @@
-use Rattle.std.proofs.Common.{rules, arith, ◌≡◌, ◌≤◌, ◌<◌, [], drop, take, length, min, ℕ, ◌+◌, ◌-◌, List, ◌∷◌, ◌++◌, refl, sym, ◌∙◌, ap, length-drop}
+use Rattle.std.proofs.Common.{arith, ◌≡◌, ◌<◌, [], drop, take, length, min, ℕ, ◌+◌, ◌-◌, List, ◌++◌}
 use Rattle.std.proofs.lemmas.List.{take-append-drop}
 use Rattle.std.proofs.Math.Seq.{take-append_seam}
 use Rattle.std.proofs.lemmas.Grind.{common_steps}
