@@ -64,54 +64,88 @@ fn long_request(alloc: Global, len: usize) -> Result<Vec<u8>, AllocError> {
     Ok(bytes)
 }
 
+/// Bytes, and what comes next in them.
+const REQUESTS: [(&[u8], &str); 11] = [
+    (b"", "end"),
+    (
+        b"GET /api/collections/notes/records/note00000000001 HTTP/1.1\r\n\r\n",
+        "Get /api/collections/notes/records/note00000000001 0 false 63",
+    ),
+    (
+        b"GET /api/collections/notes/records/note00000000001 HTTP/1.1\n\n",
+        "Get /api/collections/notes/records/note00000000001 0 false 61",
+    ),
+    (
+        b"GET /api/collections/notes/records/note00000000001 HTTP/1.1\r\nAUTHORIZATION: Bearer adminadminadmin1\r\n\r\n",
+        "Get /api/collections/notes/records/note00000000001 0 false 103|AUTHORIZATION=Bearer adminadminadmin1",
+    ),
+    (
+        b"GET /api/collections/notes/records/note00000000001 HTTP/1.1\r\nauthorization:adminadminadmin1\r\n\r\n",
+        "Get /api/collections/notes/records/note00000000001 0 false 95|authorization=adminadminadmin1",
+    ),
+    (
+        b"GET /api/collections/notes/records/note00000000001 HTTP/1.1\r\naUtHoRiZaTiOn:\t x \t\r\n\r\n",
+        "Get /api/collections/notes/records/note00000000001 0 false 84|aUtHoRiZaTiOn=x",
+    ),
+    (
+        b"GET /api/collections/notes/records/note00000000001 HTTP/1.1\r\nAuthorization:\r\n\r\n",
+        "Get /api/collections/notes/records/note00000000001 0 false 79|Authorization=",
+    ),
+    (
+        b"GET /api/collections/notes/records/note00000000001 HTTP/1.1\r\nAuthorization: \xff\r\n\r\n",
+        "Get /api/collections/notes/records/note00000000001 0 false 81",
+    ),
+    (
+        b"GET /api/collections/a/records/b HTTP/1.1\r\n\r\n",
+        "Get /api/collections/a/records/b 0 false 45",
+    ),
+    (
+        b"GET /api/collections/a%3Fb/records/c#d HTTP/1.1\r\n\r\n",
+        "Get /api/collections/a%3Fb/records/c#d 0 false 51",
+    ),
+    (
+        b"GET /api/collections/\xc3\xa9/records/c HTTP/1.1\r\n\r\n",
+        "Get /api/collections/\u{e9}/records/c 0 false 46",
+    ),
+];
+
+/// Bytes that aren't a request that is read so far.
+const OTHERS: [&[u8]; 28] = [
+    b"G",
+    b"\r\n",
+    b"GET /api/collections/notes/records/note00000000001 HTTP/1.1\r\n\r",
+    b"GET /api/collections/notes/records/note00000000001 HTTP/1.1\r\n\r\n ",
+    b"GET /api/collections/a/records/b HTTP/1.1\r\n\r\nGET /api/collections/a/records/b HTTP/1.1\r\n\r\n",
+    b"\r\nGET /api/collections/a/records/b HTTP/1.1\r\n\r\n",
+    b"\nGET /api/collections/a/records/b HTTP/1.1\r\n\r\n",
+    b"GET /api/collections/a/records/b HTTP/1.0\r\n\r\n",
+    b"GET /api/collections/a/records/b HTTP/2.0\r\n\r\n",
+    b"GET  /api/collections/a/records/b HTTP/1.1\r\n\r\n",
+    b"get /api/collections/a/records/b HTTP/1.1\r\n\r\n",
+    b"GETS /api/collections/a/records/b HTTP/1.1\r\n\r\n",
+    b"POST /api/collections/a/records/b HTTP/1.1\r\n\r\n",
+    b"POST /x HTTP/1.1\r\n\r\n",
+    b"GET * HTTP/1.1\r\n\r\n",
+    b"GET /api/collections/a/records/b?x HTTP/1.1\r\n\r\n",
+    b"GET /api/collections/a?/records/b HTTP/1.1\r\n\r\n",
+    b"GET /api/collections//records/b HTTP/1.1\r\n\r\n",
+    b"GET /api/collections/a/records/ HTTP/1.1\r\n\r\n",
+    b"GET /api/collections/a/records HTTP/1.1\r\n\r\n",
+    b"GET /api/collections/a/records/b/ HTTP/1.1\r\n\r\n",
+    b"GET //api/collections/a/records/b HTTP/1.1\r\n\r\n",
+    b"GET /api/collections/\xff/records/b HTTP/1.1\r\n\r\n",
+    b"GET /api/collections/a/records/b HTTP/1.1\r\nHost: x\r\n\r\n",
+    b"GET /api/collections/a/records/b HTTP/1.1\r\nAuthorization: x\r\nHost: x\r\n\r\n",
+    b"GET /api/collections/a/records/b HTTP/1.1\r\nAuthorization: x\r\nAuthorization: x\r\n\r\n",
+    b"GET /api/collections/a/records/b HTTP/1.1\r\nAuthorization : x\r\n\r\n",
+    b"GET /api/collections/a/records/b HTTP/1.1\r\nAuthorization: x\r\n y\r\n\r\n",
+];
+
 #[test]
 fn reads_requests(rt: HostRuntime) -> Result<(), Fail> {
     let alloc = rt.alloc();
-    let cases: [(&[u8], &str); 11] = [
-        (b"", "end"),
-        (
-            b"GET /api/collections/notes/records/note00000000001 HTTP/1.1\r\n\r\n",
-            "Get /api/collections/notes/records/note00000000001 0 false 63",
-        ),
-        (
-            b"GET /api/collections/notes/records/note00000000001 HTTP/1.1\n\n",
-            "Get /api/collections/notes/records/note00000000001 0 false 61",
-        ),
-        (
-            b"GET /api/collections/notes/records/note00000000001 HTTP/1.1\r\nAUTHORIZATION: Bearer adminadminadmin1\r\n\r\n",
-            "Get /api/collections/notes/records/note00000000001 0 false 103|AUTHORIZATION=Bearer adminadminadmin1",
-        ),
-        (
-            b"GET /api/collections/notes/records/note00000000001 HTTP/1.1\r\nauthorization:adminadminadmin1\r\n\r\n",
-            "Get /api/collections/notes/records/note00000000001 0 false 95|authorization=adminadminadmin1",
-        ),
-        (
-            b"GET /api/collections/notes/records/note00000000001 HTTP/1.1\r\naUtHoRiZaTiOn:\t x \t\r\n\r\n",
-            "Get /api/collections/notes/records/note00000000001 0 false 84|aUtHoRiZaTiOn=x",
-        ),
-        (
-            b"GET /api/collections/notes/records/note00000000001 HTTP/1.1\r\nAuthorization:\r\n\r\n",
-            "Get /api/collections/notes/records/note00000000001 0 false 79|Authorization=",
-        ),
-        (
-            b"GET /api/collections/notes/records/note00000000001 HTTP/1.1\r\nAuthorization: \xff\r\n\r\n",
-            "Get /api/collections/notes/records/note00000000001 0 false 81",
-        ),
-        (
-            b"GET /api/collections/a/records/b HTTP/1.1\r\n\r\n",
-            "Get /api/collections/a/records/b 0 false 45",
-        ),
-        (
-            b"GET /api/collections/a%3Fb/records/c#d HTTP/1.1\r\n\r\n",
-            "Get /api/collections/a%3Fb/records/c#d 0 false 51",
-        ),
-        (
-            b"GET /api/collections/\xc3\xa9/records/c HTTP/1.1\r\n\r\n",
-            "Get /api/collections/\u{e9}/records/c 0 false 46",
-        ),
-    ];
     for piece in [1, 7, 100_000] {
-        for (bytes, want) in &cases {
+        for (bytes, want) in &REQUESTS {
             assert_eq!(rt;
                 next_in(alloc, bytes, piece, &[])?.as_str(),
                 *want,
@@ -125,38 +159,8 @@ fn reads_requests(rt: HostRuntime) -> Result<(), Fail> {
 #[test]
 fn refuses_all_else(rt: HostRuntime) -> Result<(), Fail> {
     let alloc = rt.alloc();
-    let cases: [&[u8]; 28] = [
-        b"G",
-        b"\r\n",
-        b"GET /api/collections/notes/records/note00000000001 HTTP/1.1\r\n\r",
-        b"GET /api/collections/notes/records/note00000000001 HTTP/1.1\r\n\r\n ",
-        b"GET /api/collections/a/records/b HTTP/1.1\r\n\r\nGET /api/collections/a/records/b HTTP/1.1\r\n\r\n",
-        b"\r\nGET /api/collections/a/records/b HTTP/1.1\r\n\r\n",
-        b"\nGET /api/collections/a/records/b HTTP/1.1\r\n\r\n",
-        b"GET /api/collections/a/records/b HTTP/1.0\r\n\r\n",
-        b"GET /api/collections/a/records/b HTTP/2.0\r\n\r\n",
-        b"GET  /api/collections/a/records/b HTTP/1.1\r\n\r\n",
-        b"get /api/collections/a/records/b HTTP/1.1\r\n\r\n",
-        b"GETS /api/collections/a/records/b HTTP/1.1\r\n\r\n",
-        b"POST /api/collections/a/records/b HTTP/1.1\r\n\r\n",
-        b"POST /x HTTP/1.1\r\n\r\n",
-        b"GET * HTTP/1.1\r\n\r\n",
-        b"GET /api/collections/a/records/b?x HTTP/1.1\r\n\r\n",
-        b"GET /api/collections/a?/records/b HTTP/1.1\r\n\r\n",
-        b"GET /api/collections//records/b HTTP/1.1\r\n\r\n",
-        b"GET /api/collections/a/records/ HTTP/1.1\r\n\r\n",
-        b"GET /api/collections/a/records HTTP/1.1\r\n\r\n",
-        b"GET /api/collections/a/records/b/ HTTP/1.1\r\n\r\n",
-        b"GET //api/collections/a/records/b HTTP/1.1\r\n\r\n",
-        b"GET /api/collections/\xff/records/b HTTP/1.1\r\n\r\n",
-        b"GET /api/collections/a/records/b HTTP/1.1\r\nHost: x\r\n\r\n",
-        b"GET /api/collections/a/records/b HTTP/1.1\r\nAuthorization: x\r\nHost: x\r\n\r\n",
-        b"GET /api/collections/a/records/b HTTP/1.1\r\nAuthorization: x\r\nAuthorization: x\r\n\r\n",
-        b"GET /api/collections/a/records/b HTTP/1.1\r\nAuthorization : x\r\n\r\n",
-        b"GET /api/collections/a/records/b HTTP/1.1\r\nAuthorization: x\r\n y\r\n\r\n",
-    ];
     for piece in [1, 7, 100_000] {
-        for (i, bytes) in cases.iter().enumerate() {
+        for (i, bytes) in OTHERS.iter().enumerate() {
             assert_eq!(rt;
                 next_in(alloc, bytes, piece, &[])?.as_str(),
                 "refused 501",
@@ -167,27 +171,25 @@ fn refuses_all_else(rt: HostRuntime) -> Result<(), Fail> {
     Ok(())
 }
 
+/// What comes next in a request of so many bytes, where the read with this number fails.
+fn next_in_long(alloc: Global, len: usize, failing: u64) -> Result<String, AllocError> {
+    let bytes = long_request(alloc, len)?;
+    next_in(alloc, &bytes, 100_000, &[failing])
+}
+
+// Reads are of 512 bytes, so that the 33rd is the last.
 #[test]
 fn reads_no_further_than_16384_bytes(rt: HostRuntime) -> Result<(), Fail> {
-    let alloc = rt.alloc();
-    let whole = next_in(alloc, &long_request(alloc, 16_384)?, 100_000, &[])?;
-    assert!(rt; whole.as_str().ends_with("a 0 false 16384"));
-    let more = long_request(alloc, 16_385)?;
-    assert_eq!(rt;
-        next_in(alloc, &more, 100_000, &[])?.as_str(),
-        "refused 501"
-    );
-
-    // Reads of 512 bytes: the 33rd is the last.
-    let much = long_request(alloc, 20_000)?;
-    assert_eq!(rt;
-        next_in(alloc, &much, 100_000, &[32])?.as_str(),
-        "the input can't be read"
-    );
-    assert_eq!(rt;
-        next_in(alloc, &much, 100_000, &[33])?.as_str(),
-        "refused 501"
-    );
+    let cases = [
+        (16_384, 99, "a 0 false 16384"),
+        (16_385, 99, "refused 501"),
+        (20_000, 32, "the input can't be read"),
+        (20_000, 33, "refused 501"),
+    ];
+    for (len, failing, want) in cases {
+        let answer = next_in_long(rt.alloc(), len, failing)?;
+        assert!(rt; answer.as_str().ends_with(want), "{len} and {failing}");
+    }
     Ok(())
 }
 
@@ -215,77 +217,82 @@ fn goes_on_from_its_inbox(rt: HostRuntime) -> Result<(), Fail> {
     Ok(())
 }
 
+/// Targets, and the collection and the id that they name, with a blank between.
+const TARGETS: [(&str, &str); 6] = [
+    (
+        "/api/collections/notes/records/note00000000001",
+        "notes note00000000001",
+    ),
+    ("/api/collections/a/records/records", "a records"),
+    ("/api/collections/records/records/records/", "none"),
+    ("/api/collections/a/record/b", "none"),
+    ("/api/collections", "none"),
+    ("", "none"),
+];
+
 #[test]
-fn cuts_targets(rt: HostRuntime) {
-    let cases = [
-        (
-            "/api/collections/notes/records/note00000000001",
-            Some(("notes", "note00000000001")),
-        ),
-        ("/api/collections/a/records/records", Some(("a", "records"))),
-        ("/api/collections/records/records/records/", None),
-        ("/api/collections/a/record/b", None),
-        ("/api/collections", None),
-        ("", None),
-    ];
-    for (target, want) in cases {
-        assert_eq!(rt; view_segments(target), want, "{target}");
+fn cuts_targets(rt: HostRuntime) -> Result<(), Fail> {
+    for (target, want) in &TARGETS {
+        let found = match view_segments(target) {
+            Some((collection, id)) => format!(in rt.alloc(); "{collection} {id}")?,
+            None => String::from_str(rt.alloc(), "none")?,
+        };
+        assert_eq!(rt; found.as_str(), *want, "{target}");
     }
+    Ok(())
+}
+
+/// A link over these bytes and an empty sink. The second call of each fails.
+fn link(alloc: Global, bytes: &[u8]) -> Result<MemoryLink, AllocError> {
+    let bytes = Seq::from_vec(bytes.to_vec(alloc)?);
+    let source = MemorySource::new(bytes, 2, vec![in alloc; 1]?);
+    let sink = MemorySink::new(Seq::new(alloc), vec![in alloc; 1]?);
+    Ok(MemoryLink { source, sink })
 }
 
 #[test]
 fn writes_all_or_a_front(rt: HostRuntime) -> Result<(), Fail> {
-    let alloc = rt.alloc();
-    let source = MemorySource::new(
-        Seq::from_vec(b"hello".to_vec(alloc)?),
-        2,
-        vec![in alloc; 1]?,
-    );
-    let sink = MemorySink::new(Seq::from_vec(b"> ".to_vec(alloc)?), vec![in alloc; 1]?);
-    let mut link = MemoryLink { source, sink };
+    let mut link = link(rt.alloc(), b"hello")?;
     let mut buffer = [0; 8];
-    assert_eq!(rt; link.read(&mut buffer).ok(), Some(2));
-    assert_eq!(rt; link.read(&mut buffer).ok(), None);
-    assert_eq!(rt; link.read(&mut buffer).ok(), Some(2));
-    assert_eq!(rt; link.read(&mut buffer).ok(), Some(1));
-    assert_eq!(rt; link.read(&mut buffer).ok(), Some(0));
-    assert!(rt; write_all(&mut link, b"ab").is_ok());
-    assert!(rt; write_all(&mut link, b"cd").is_err());
-    assert!(rt; write_all(&mut link, b"ef").is_ok());
-    assert_eq!(rt; link.sink.bytes(), b"> abef".as_slice());
+    for want in [Some(2), None, Some(2), Some(1), Some(0)] {
+        assert_eq!(rt; link.read(&mut buffer).ok(), want);
+    }
+    for want in [true, false, true] {
+        assert_eq!(rt; write_all(&mut link, b"ab").is_ok(), want);
+    }
+    assert_eq!(rt; link.sink.bytes(), b"abab".as_slice());
     Ok(())
 }
 
 #[test]
-fn adapts_readers_and_writers(rt: HostRuntime) -> Result<(), Fail> {
-    let alloc = rt.alloc();
+fn adapts_readers(rt: HostRuntime) -> Result<(), Fail> {
     let mut source = HostSource {
         inner: b"GET /api/collections/a/records/b HTTP/1.1\r\n\r\n".as_slice(),
         faults: 0,
     };
-    let answer = next_request(alloc, &mut Inbox::new(alloc), &mut source);
+    let answer = next_request(rt.alloc(), &mut Inbox::new(rt.alloc()), &mut source);
+    let answer = words(rt.alloc(), answer)?;
     assert_eq!(rt;
-        words(alloc, answer)?.as_str(),
+        answer.as_str(),
         "Get /api/collections/a/records/b 0 false 45"
     );
     assert_eq!(rt; source.faults, 0);
+    Ok(())
+}
 
+// A writer that is full takes nothing, which is a fault.
+#[test]
+fn adapts_writers(rt: HostRuntime) {
+    let mut room = [0; 7];
     let mut sink = HostSink {
-        inner: Vec::new(alloc),
-        faults: 0,
-    };
-    assert!(rt; write_all(&mut sink, b"hello").is_ok());
-    assert_eq!(rt; sink.inner.as_slice(), b"hello".as_slice());
-
-    // A writer that is full takes nothing, which is a fault.
-    let mut room = [0; 3];
-    let mut full = HostSink {
         inner: room.as_mut_slice(),
         faults: 0,
     };
-    assert!(rt; write_all(&mut full, b"hello").is_err());
-    assert_eq!(rt; full.faults, 1);
-    Ok(())
+    for (want, faults) in [(true, 0), (false, 1)] {
+        assert_eq!(rt; write_all(&mut sink, b"hello").is_ok(), want);
+        assert_eq!(rt; sink.faults, faults);
+    }
+    assert_eq!(rt; room, *b"hellohe");
 }
 
 #[test]
@@ -343,43 +350,51 @@ impl RandomSource for System {
 }
 
 #[test]
-fn tells_time_and_words(rt: HostRuntime) -> Result<(), Fail> {
+fn tells_time(rt: HostRuntime) -> Result<(), Fail> {
     let moment = Moment::of_millis(1_714_557_600_000).ok_or("no moment")?;
     let mut fixed = FixedClock::new(moment);
-    assert_eq!(rt; fixed.now(), moment);
-    assert_eq!(rt; fixed.now(), moment);
-    assert_eq!(rt; fixed.calls, 2);
-    let mut dice = CountingDice::new(u64::MAX - 1);
-    assert_eq!(rt; dice.word(), u64::MAX - 1);
-    assert_eq!(rt; dice.word(), u64::MAX);
-    assert_eq!(rt; dice.word(), 0);
-
+    for calls in [1, 2] {
+        assert_eq!(rt; fixed.now(), moment);
+        assert_eq!(rt; fixed.calls, calls);
+    }
     let mut clock = HostClock::new(System {
         secs: None,
         random: false,
     });
-    assert_eq!(rt; clock.now().millis(), 0);
-    clock.rt.secs = Some(1_714_557_600);
-    assert_eq!(rt; clock.now(), moment);
-    clock.rt.secs = None;
-    assert_eq!(rt; clock.now(), moment);
 
-    // The year 10000.
-    clock.rt.secs = Some(253_402_300_800);
-    assert_eq!(rt; clock.now(), moment);
+    // The last is in the year 10000.
+    let cases = [
+        (None, 0),
+        (Some(1_714_557_600), 1_714_557_600_000),
+        (None, 1_714_557_600_000),
+        (Some(253_402_300_800), 1_714_557_600_000),
+    ];
+    for (secs, millis) in cases {
+        clock.rt.secs = secs;
+        assert_eq!(rt; clock.now().millis(), millis);
+    }
+    assert!(rt; HostClock::new(&rt).now() > moment);
+    Ok(())
+}
+
+#[test]
+fn gives_words(rt: HostRuntime) {
+    let mut dice = CountingDice::new(u64::MAX - 1);
+    for word in [u64::MAX - 1, u64::MAX, 0] {
+        assert_eq!(rt; dice.word(), word);
+    }
     let mut dice = HostDice::new(System {
         secs: None,
         random: false,
     });
-    assert_eq!(rt; dice.word(), 0);
-    dice.rt.random = true;
-    assert_eq!(rt; dice.word(), 0x0101_0101_0101_0101);
-    dice.rt.random = false;
-    assert_eq!(rt; dice.word(), 0x0101_0101_0101_0101);
-
-    // The host's own: after 2024, and not twice the same word.
-    assert!(rt; HostClock::new(&rt).now() > moment);
+    for (random, word) in [
+        (false, 0),
+        (true, 0x0101_0101_0101_0101),
+        (false, 0x0101_0101_0101_0101),
+    ] {
+        dice.rt.random = random;
+        assert_eq!(rt; dice.word(), word);
+    }
     let mut dice = HostDice::new(&rt);
     assert_ne!(rt; dice.word(), dice.word());
-    Ok(())
 }

@@ -9,6 +9,7 @@ use Rattle.pocket_wire.specs.declared.request.Ended.{Ended}
 use Rattle.pocket_wire.specs.declared.request.Ended.TheVariants.{Done, Refused}
 use Rattle.std.specs.Prelude.{map}
 
+-- bytes are one request at most: a buffer begins with at most one head
 pub plain_unique : (bytes : List ℕ) (r s : Request) → IsPlainRequest bytes r → IsPlainRequest bytes s → r ≡ s
 plain_unique bytes r s x y =
     let h = x.head.0 in
@@ -24,6 +25,7 @@ plain_unique bytes r s x y =
     let cost = x.cost ∙ sym y.cost in
     λ i. record { method = method i; target = target i; headers = headers i; body = body i; close = close i; cost = cost i }
 
+-- a request has bytes
 pub plain_some : (bytes : List ℕ) (r : Request) → IsPlainRequest bytes r → bytes ≢ []
 plain_some bytes r x none =
     let first : 0 ≡ 71 = rw none at x.head.1.first in
@@ -36,12 +38,14 @@ Cases bytes one rest =
     ⊎ (((one ≡ []) × (rest ≡ Refused 501) × (bytes ≢ []) × ((r : Request) → ¬ (IsPlainRequest bytes r)))
     ⊎ ((r : Request) × (one ≡ r ∷ []) × (rest ≡ Done) × IsPlainRequest bytes r))
 
+-- each answer is one of them
 cases : (bytes : List ℕ) (one : List Request) (rest : Ended) → RequestsOf bytes one rest → Cases bytes one rest
 cases bytes [] Done x = inl (refl, refl, x)
 cases bytes [] (Refused status) x = inr (inl (refl, ap Refused x.0, x.1, x.2))
 cases bytes (r ∷ []) Done x = inr (inr (r, refl, refl, x))
 cases bytes one rest x = absurd x
 
+-- two answers are of one case, and equal
 pub determined : AreDetermined
 determined bytes one other rest end x y =
     elim (cases bytes one rest x) [

@@ -34,6 +34,7 @@ one_plain f (x ∷ []) d b one h = (
 )
 one_plain f (x ∷ y ∷ rest) d b one h = absurd (omega arith)
 
+-- a byte of a token is ASCII
 token_is_ascii : (b : ℕ) → is_token_byte b ≡ true → b < 128
 unfolding is_token_byte
 token_is_ascii b token = grind (arith, nat_tests)

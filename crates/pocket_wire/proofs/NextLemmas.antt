@@ -10,6 +10,7 @@ use Rattle.pocket_wire.specs.declared.request.WireFault.{WireFault}
 at_end : (bytes : List ℕ) (left : Option (List ℕ)) → IsWholeInput bytes left → length bytes ≤ 16384 → IsAtEnd left
 at_end bytes left whole few = elim whole [ inl e ↦ e | inr more ↦ absurd (omega arith) ]
 
+-- each kind of answer
 by_cases : (bytes : List ℕ) (left : Option (List ℕ)) (kept : List ℕ) (n : Next) → IsNextOf bytes n → IsWholeInput bytes left → kept ≡ []
     → IsNext bytes left kept n
 by_cases bytes left kept (next.Request request) is whole none = (is, at_end bytes left whole is.head.1.few, none)
@@ -17,6 +18,7 @@ by_cases bytes left kept next.End is whole none = (is, at_end bytes left whole (
 by_cases bytes left kept next.Truncated is whole none = absurd is
 by_cases bytes left kept (next.Refused status) is whole none = (is, whole, none)
 
+-- where there is an answer
 pub next_is : (bytes all : List ℕ) (left : Option (List ℕ)) (kept : List ℕ) (r : Result Next WireFault) → bytes ≡ all
     → IfOk r (IsNextOf bytes) → IsWholeInput bytes left → kept ≡ [] → IfOk r (IsNext all left kept)
 next_is bytes all left kept (Ok n) same is whole none =

@@ -20,6 +20,7 @@ stripped text front (Some x) h = h.1.1 ∙ ap (λ rest. front ++ rest) (sym h.2)
 abbrev pub NoSlash : List ℕ → Type 0
 NoSlash bytes = (k : ℕ) → k < length bytes → get_or bytes k 0 ≢ 47
 
+-- a segment is cut nowhere
 pub segment_no_slash : (s : List ℕ) → IsTrue (is_segment s) → NoSlash s
 segment_no_slash s seg k below slash =
     let chars : list_all is_segment_byte s ≡ true = grind (arith, seg) in
@@ -27,9 +28,11 @@ segment_no_slash s seg k below slash =
     let bad : is_segment_byte 47 ≡ true = rw slash at pass in
     absurd (cc bad)
 
+-- one of two is false
 pub and_left : (a b : Bool) → a ≡ false → (a && b) ≡ false
 and_left a b e = rw e refl
 
+-- or the other
 pub and_right : (a b : Bool) → b ≡ false → (a && b) ≡ false
 and_right true b e = e
 and_right false b e = refl
@@ -49,6 +52,7 @@ one_cut (c ∷ a) x (d ∷ b) y m n e =
 slash_between : (a x : List ℕ) → get_or (a ++ 47 ∷ x) (length a) 0 ≡ 47
 slash_between a x = grind (arith, common_steps)
 
+-- it stands in the whole
 slash_within : (a x : List ℕ) → length a < length (a ++ 47 ∷ x)
 slash_within a x = grind (arith, common_steps)
 
@@ -58,6 +62,7 @@ module _ (target rest : List ℕ) (front : target ≡ codes "/api/collections/" 
       → rest ≡ collection ++ 47 ∷ (codes "records/" ++ id)
   view_rest collection id view = append_cancel_left (codes "/api/collections/") _ _ (sym front ∙ view.text)
 
+  -- a view's target has a `/` there
   pub no_slash : NoSlash rest → (collection id : List ℕ) → ¬ (IsViewTarget target collection id)
   no_slash none collection id view =
       let e = view_rest collection id view in
@@ -65,21 +70,25 @@ module _ (target rest : List ℕ) (front : target ≡ codes "/api/collections/" 
       subst P e none (length collection) (slash_within collection _) (slash_between collection _)
 
   module _ (first last : List ℕ) (cut : rest ≡ first ++ 47 ∷ last) (none : NoSlash first) where
+    -- the parts of a view's target are those of the cut
     parts : (collection id : List ℕ) → IsViewTarget target collection id
         → (first ≡ collection) × (last ≡ codes "records/" ++ id)
     parts collection id view =
         one_cut first last collection (codes "records/" ++ id) none (segment_no_slash collection view.first)
         (sym cut ∙ view_rest collection id view)
 
+    -- what follows the collection begins with `records/`
     pub no_records : ((id : List ℕ) → last ≢ codes "records/" ++ id) → (collection id : List ℕ) → ¬ (IsViewTarget target collection id)
     no_records other collection id view = other id (parts collection id view).1
 
+    -- the two segments are the only ones
     pub only_segments : (name : List ℕ) → last ≡ codes "records/" ++ name → (collection id : List ℕ)
         → IsViewTarget target collection id → (first ≡ collection) × (name ≡ id)
     only_segments name behind collection id view =
         let both = parts collection id view in
         (both.0, append_cancel_left (codes "records/") _ _ (sym behind ∙ both.1))
 
+    -- both are of a segment's form
     pub no_segments : (name : List ℕ) → last ≡ codes "records/" ++ name → (is_segment first && is_segment name) ≡ false
         → (collection id : List ℕ) → ¬ (IsViewTarget target collection id)
     no_segments name behind bad collection id view =
