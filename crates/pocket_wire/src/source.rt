@@ -1,0 +1,52 @@
+ghost use Rattle.std.specs.Prelude.{◌≡◌, ℕ, ◌≤◌, ◌<◌, List, Option, length, IfOk};
+ghost use Rattle.std.specs.Io.{ReadsAtMost, WritesAtMost};
+ghost use Rattle.std.specs.Io.KnownBytes.{ReadConsumes, WriteAppends};
+ghost use Rattle.pocket_types.specs.Causes.{HasCause, StaysUntold};
+
+use pocket_types::Failed;
+
+/// Bytes that are read piece by piece.
+pub trait Source {
+    // the bytes that are left, where they are told
+    ghost left: { Self → Option (List ℕ) };
+    // how often a read has failed
+    ghost faults: { Self → ℕ };
+    // what a read leaves as it is: of a sink, the bytes that it took and its faults
+    ghost untouched: { Self → Option (List ℕ) × ℕ };
+
+    /// Reads from the front into the buffer, and answers how many bytes. A read into a buffer with room gives 0 bytes only
+    /// at the end. One that fails leaves what is left.
+    fn read(&mut self, buffer: &mut [u8]) -> Result<usize, Failed>
+        ensures bound { ReadsAtMost result buffer.new }
+        ensures bytes { ReadConsumes (left self.old) (left self.new) result buffer.new }
+        ensures untold { StaysUntold (left self.old) (left self.new) }
+        ensures cause { HasCause (faults self.old) (faults self.new) result }
+        ensures apart { untouched self.new ≡ untouched self.old };
+}
+
+/// A place that bytes are written to.
+pub trait Sink {
+    // the bytes that it took, where they are told
+    ghost taken: { Self → Option (List ℕ) };
+    // how often a write has failed
+    ghost faults: { Self → ℕ };
+    // what a write leaves as it is: of a source, the bytes that are left and its faults
+    ghost untouched: { Self → Option (List ℕ) × ℕ };
+
+    /// Writes from the front of the piece, and answers how many bytes. One that takes none of a piece that isn't empty is
+    /// a fault. One that fails leaves what was taken.
+    fn write(&mut self, piece: &[u8]) -> Result<usize, Failed>
+        ensures bound { WritesAtMost result piece.now }
+        ensures some { 0 < length piece.now → IfOk result (λ n. 0 < n) }
+        ensures bytes { WriteAppends (taken self.old) (taken self.new) result piece.now }
+        ensures untold { StaysUntold (taken self.old) (taken self.new) }
+        ensures cause { HasCause (faults self.old) (faults self.new) result }
+        ensures apart { untouched self.new ≡ untouched self.old };
+}
+
+/// A connection: a read changes nothing of the sink, and a write nothing of the source.
+pub trait Link: Source + Sink {
+    ghost read_apart: { (link : Self) → Self.Source.untouched link ≡ (Self.taken link, Self.Sink.faults link) };
+
+    ghost write_apart: { (link : Self) → Self.Sink.untouched link ≡ (Self.left link, Self.Source.faults link) };
+}
