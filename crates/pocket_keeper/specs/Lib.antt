@@ -1,0 +1,4 @@
+pub mod Dates
+pub mod Parts
+pub mod Plain
+pub mod Texts

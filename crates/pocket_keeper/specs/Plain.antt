@@ -1,0 +1,62 @@
+-- The collections and records that rows may hold so far.
+use Rattle.std.specs.Prelude.{◌≡◌, ℕ, ◌==◌, ◌||◌, not, List, [], ◌∷◌, codes, Bool, false, pos, IsTrue, IsUtf8}
+use Rattle.std.specs.Str.{bytes_eq}
+use Rattle.pocket_types.specs.declared.records.Cell.{Cell}
+use Rattle.pocket_types.specs.declared.records.Cell.TheVariants as cell
+use Rattle.pocket_types.specs.declared.records.Kind.TheVariants as kind
+use Rattle.pocket_types.specs.declared.records.Field.{Field}
+use Rattle.pocket_types.specs.declared.records.Rule.{Rule}
+use Rattle.pocket_types.specs.declared.records.Rule.TheVariants as rule
+use Rattle.pocket_types.specs.declared.records.Collection.{Collection}
+use Rattle.pocket_types.specs.declared.records.Rec.{Rec}
+use Rattle.pocket_types.specs.Names.{is_name, is_id}
+use Rattle.pocket_keeper.specs.Dates.{plain_moment}
+
+-- nobody but the administrator may do the thing, or anyone
+abbrev pub IsPlainRule : Rule → Type 0
+IsPlainRule rule.Locked = Unit {0}
+IsPlainRule rule.Free = Unit {0}
+IsPlainRule (rule.Filter t) = ⊥
+
+-- the names that no field may have
+abbrev pub is_reserved : List ℕ → Bool
+is_reserved name =
+    bytes_eq name (codes "id") || bytes_eq name (codes "created") || bytes_eq name (codes "updated") || bytes_eq name (codes "collectionName") || bytes_eq name (codes "expand")
+
+-- a text field with the options that a field has where none is given
+pub record IsPlainField (f : Field) : Type 0 where
+  pub kind : f.kind ≡ kind.Text 0 5000
+  pub required : f.required ≡ false
+  pub hidden : f.hidden ≡ false
+  pub unique : f.unique ≡ false
+  pub name : IsTrue (is_name f.name)
+  pub free : is_reserved f.name ≡ false
+
+-- one plain field
+abbrev pub HasPlainField : List Field → Type 0
+HasPlainField [] = ⊥
+HasPlainField (f ∷ []) = IsPlainField f
+HasPlainField (f ∷ g ∷ fs) = ⊥
+
+-- a base collection with one plain field, each of whose rules is locked or free
+pub record IsPlainCollection (c : Collection) : Type 0 where
+  pub name : IsTrue (is_name c.name)
+  pub base : c.is_auth ≡ false
+  pub fields : HasPlainField c.fields
+  pub list_rule : IsPlainRule c.list_rule
+  pub view_rule : IsPlainRule c.view_rule
+  pub create_rule : IsPlainRule c.create_rule
+  pub update_rule : IsPlainRule c.update_rule
+  pub delete_rule : IsPlainRule c.delete_rule
+
+-- one text
+abbrev pub HasPlainCell : List Cell → Type 0
+HasPlainCell (cell.Text t ∷ []) = IsUtf8 t
+HasPlainCell _ = ⊥
+
+-- a record of one text, with the one moment of records so far
+pub record IsPlainRec (r : Rec) : Type 0 where
+  pub id : IsTrue (is_id r.id)
+  pub created : r.created ≡ plain_moment
+  pub updated : r.updated ≡ plain_moment
+  pub cells : HasPlainCell r.cells
