@@ -1,2 +1,3 @@
+pub mod PlainTexts
 pub mod Printing
 pub mod Steps

@@ -27,21 +27,59 @@ abbrev pub rule_text : Bool → List ℕ
 rule_text true = codes "\"\""
 rule_text false = codes "null"
 
+-- ---- what stands between the parts of a plain collection's text
+
+-- before the create rule
+unfoldable pub create_key : List ℕ
+create_key = codes "{\"createRule\":"
+
+-- before the delete rule
+unfoldable pub delete_key : List ℕ
+delete_key = codes ",\"deleteRule\":"
+
+-- before the name of a plain field
+unfoldable pub fields_key : List ℕ
+fields_key = codes ",\"fields\":[{\"hidden\":false,\"max\":5000,\"min\":0,\"name\":\""
+
+-- between the quote behind the name of a plain field and the list rule
+unfoldable pub list_key : List ℕ
+list_key = codes ",\"required\":false,\"type\":\"text\",\"unique\":false}],\"listRule\":"
+
+-- before the name
+unfoldable pub name_key : List ℕ
+name_key = codes ",\"name\":\""
+
+-- between the quote behind the name and the update rule
+unfoldable pub update_key : List ℕ
+update_key = codes ",\"type\":\"base\",\"updateRule\":"
+
+-- before the view rule
+unfoldable pub view_key : List ℕ
+view_key = codes ",\"viewRule\":"
+
+-- two rules, each behind its key
+abbrev pub two_rules : List ℕ → List ℕ → Bool → Bool → List ℕ → List ℕ
+two_rules first second a b rest = first ++ (rule_text a ++ (second ++ (rule_text b ++ rest)))
+
+-- a word up to its quote
+abbrev pub quoted_word : List ℕ → List ℕ → List ℕ → List ℕ
+quoted_word literal word rest = literal ++ (word ++ (34 ∷ rest))
+
 -- the front of a plain collection's text: two rules and the field's name, and then the rest
 abbrev pub front_text : Bool → Bool → List ℕ → List ℕ → List ℕ
-front_text create delete field rest =
-    codes "{\"createRule\":" ++ (rule_text create ++ (codes ",\"deleteRule\":" ++ (rule_text delete
-    ++ (codes ",\"fields\":[{\"hidden\":false,\"max\":5000,\"min\":0,\"name\":\"" ++ (field ++ (34 ∷ rest))))))
+front_text create delete field rest = two_rules create_key delete_key create delete (quoted_word fields_key field rest)
 
--- its back: the other rules and the collection's name
-abbrev pub back_text : Bool → List ℕ → Bool → Bool → List ℕ
-back_text list name update view =
-    codes ",\"required\":false,\"type\":\"text\",\"unique\":false}],\"listRule\":" ++ (rule_text list ++ (codes ",\"name\":\"" ++ (name ++ (34
-    ∷ (codes ",\"type\":\"base\",\"updateRule\":" ++ (rule_text update ++ (codes ",\"viewRule\":" ++ (rule_text view ++ codes "}"))))))))
+-- then the list rule and the collection's name
+abbrev pub middle_text : Bool → List ℕ → List ℕ → List ℕ
+middle_text list name rest = list_key ++ (rule_text list ++ quoted_word name_key name rest)
+
+-- then the last rules
+abbrev pub back_text : Bool → Bool → List ℕ
+back_text update view = two_rules update_key view_key update view (125 ∷ [])
 
 -- the text of a plain collection
 abbrev pub plain_text : Bool → Bool → List ℕ → Bool → List ℕ → Bool → Bool → List ℕ
-plain_text create delete field list name update view = front_text create delete field (back_text list name update view)
+plain_text create delete field list name update view = front_text create delete field (middle_text list name (back_text update view))
 
 -- the plain field of a name
 abbrev pub plain_field : List ℕ → Field
