@@ -1,3 +1,6 @@
+pub mod EscapeForms
+pub mod PlainForms
+pub mod PlainRows
 pub mod PlainTexts
 pub mod Printing
 pub mod Steps

@@ -1,5 +1,6 @@
 -- Rows of plain collections and plain records, taken apart.
-use Rattle.std.specs.Prelude.{◌≢◌, ℕ, ◌<◌, length, slice_index, List, [], ◌∷◌, ◌++◌, codes, Bool, true, false}
+use Rattle.std.specs.Prelude.{◌≡◌, ◌≢◌, ℕ, ◌<◌, length, slice_index, ◌==◌, if◌then◌else◌, Option, MatchOption, List, [], ◌∷◌, ◌++◌, codes, Bool, true, false}
+use denote.Ref.{Bor}
 use Rattle.std.specs.Ordering.{nat_cmp}
 use Rattle.std.specs.declared.cmp.Ordering.{Ordering}
 use Rattle.std.specs.declared.cmp.Ordering.TheVariants.{Less, Equal, Greater}
@@ -119,3 +120,13 @@ to_updated name = slice_cmp nat_cmp name (codes "updated")
 abbrev pub plain_rec_text : List ℕ → List ℕ → List ℕ
 plain_rec_text name inside =
     before_field (to_created name) (to_updated name) ++ (name ++ (codes "\":\"" ++ (inside ++ behind_field (to_created name) (to_updated name))))
+
+-- ---- escaped strings
+
+-- what a letter behind a backslash stands for
+abbrev pub meaning_of : ℕ → ℕ
+meaning_of l = if l == 98 then 8 else (if l == 116 then 9 else (if l == 110 then 10 else (if l == 102 then 12 else (if l == 114 then 13 else l))))
+
+-- the byte and what stands behind it were found
+abbrev pub IsFirst : Option (ℕ × Bor (List ℕ)) → ℕ → List ℕ → Type 0
+IsFirst result b rest = MatchOption result ⊥ (λ p. (p.0 ≡ b) × (p.1.now ≡ rest))

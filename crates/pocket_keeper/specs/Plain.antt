@@ -1,5 +1,5 @@
 -- The collections and records that rows may hold so far.
-use Rattle.std.specs.Prelude.{◌≡◌, ℕ, ◌==◌, ◌||◌, not, List, [], ◌∷◌, codes, Bool, false, pos, IsTrue, IsUtf8}
+use Rattle.std.specs.Prelude.{◌≡◌, ◌≢◌, ℕ, ◌==◌, ◌||◌, not, List, [], ◌∷◌, codes, Bool, false, pos, IsTrue, IsUtf8}
 use Rattle.std.specs.Str.{bytes_eq}
 use Rattle.pocket_types.specs.declared.records.Cell.{Cell}
 use Rattle.pocket_types.specs.declared.records.Cell.TheVariants as cell
@@ -10,7 +10,9 @@ use Rattle.pocket_types.specs.declared.records.Rule.TheVariants as rule
 use Rattle.pocket_types.specs.declared.records.Collection.{Collection}
 use Rattle.pocket_types.specs.declared.records.Rec.{Rec}
 use Rattle.pocket_types.specs.Names.{is_name, is_id}
+use Rattle.pocket_keeper.specs.declared.rows.KeptRow.{KeptRow}
 use Rattle.pocket_keeper.specs.Dates.{plain_moment}
+use Rattle.pocket_keeper.specs.Texts.{collection_row, rec_row}
 
 -- nobody but the administrator may do the thing, or anyone
 abbrev pub IsPlainRule : Rule → Type 0
@@ -22,6 +24,10 @@ IsPlainRule (rule.Filter t) = ⊥
 abbrev pub is_reserved : List ℕ → Bool
 is_reserved name =
     bytes_eq name (codes "id") || bytes_eq name (codes "created") || bytes_eq name (codes "updated") || bytes_eq name (codes "collectionName") || bytes_eq name (codes "expand")
+
+-- a name that a field may have
+abbrev pub IsFieldName : List ℕ → Type 0
+IsFieldName name = IsTrue (is_name name) × (is_reserved name ≡ false)
 
 -- a text field with the options that a field has where none is given
 pub record IsPlainField (f : Field) : Type 0 where
@@ -60,3 +66,23 @@ pub record IsPlainRec (r : Rec) : Type 0 where
   pub created : r.created ≡ plain_moment
   pub updated : r.updated ≡ plain_moment
   pub cells : HasPlainCell r.cells
+
+-- no plain collection has the row
+abbrev pub LacksCollection : KeptRow → Type 0
+LacksCollection row = (c : Collection) → IsPlainCollection c → row ≢ collection_row c
+
+-- the one plain collection that has the row
+pub record HoldsCollection (row : KeptRow) (c : Collection) : Type 0 where
+  pub plain : IsPlainCollection c
+  pub kept : row ≡ collection_row c
+  pub only : (d : Collection) → IsPlainCollection d → row ≡ collection_row d → d ≡ c
+
+-- no plain record of the collection has the row
+abbrev pub LacksRec : Collection → KeptRow → Type 0
+LacksRec c row = (r : Rec) → IsPlainRec r → row ≢ rec_row c r
+
+-- the one plain record of the collection that has the row
+pub record HoldsRec (c : Collection) (row : KeptRow) (r : Rec) : Type 0 where
+  pub plain : IsPlainRec r
+  pub kept : row ≡ rec_row c r
+  pub only : (s : Rec) → IsPlainRec s → row ≡ rec_row c s → s ≡ r

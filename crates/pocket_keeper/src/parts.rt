@@ -119,6 +119,7 @@ fn two_rules_after<'a>(text: &'a str, first: &str, second: &str) -> Option<(bool
 
 /// The front of a plain collection's text: whether the create rule and the delete rule are free, the field's name,
 /// and what stands behind it.
+#[derive(Drop)]
 pub struct Front<'a> {
     pub create: bool,
     pub delete: bool,
