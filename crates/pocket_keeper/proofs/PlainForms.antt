@@ -31,7 +31,7 @@ rule_plain : (b : Bool) → IsPlainRule (rule_of b)
 rule_plain true = tt
 rule_plain false = tt
 
-field_form : (f : Field) → IsPlainField f → f ≡ plain_field f.name
+pub field_form : (f : Field) → IsPlainField f → f ≡ plain_field f.name
 field_form f h = λ i. record { name = f.name; kind = h.kind i; required = h.required i; hidden = h.hidden i; unique = h.unique i }
 
 fields_form : (fs : List Field) → HasPlainField fs → (f : List ℕ) × (fs ≡ plain_field f ∷ []) × IsFieldName f

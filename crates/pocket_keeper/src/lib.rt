@@ -8,6 +8,6 @@ mod plain;
 mod rows;
 mod texts;
 
-pub use plain::{read_collection, rec_key};
+pub use plain::{read_collection, read_rec, rec_key};
 pub use rows::KeptRow;
 pub use texts::{collection_jv, rec_jv, row_of_collection, row_of_rec};

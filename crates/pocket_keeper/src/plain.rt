@@ -4,11 +4,14 @@ ghost use Rattle.pocket_types.specs.Names.{is_name, is_id};
 ghost use Rattle.pocket_types.specs.Json.{escape_byte};
 ghost use Rattle.pocket_keeper.specs.Parts.{HasNoByte, rule_of, plain_text, plain_field, plain_collection, plain_rec, plain_rec_text, before_field, behind_field, to_created, to_updated};
 ghost use Rattle.pocket_keeper.specs.Plain.{IsPlainCollection, IsPlainRec, IsFieldName, is_reserved, LacksCollection, HoldsCollection, LacksRec, HoldsRec};
-ghost use Rattle.pocket_keeper.specs.Texts.{rec_key};
+ghost use Rattle.pocket_keeper.specs.Texts.{rec_key, rec_row};
 
+use crate::dates::plain_moment;
+use crate::escapes::unescaped;
 use crate::parts::{after, back_of, before, front_of, middle_of, word_after};
 use crate::rows::KeptRow;
-use pocket_types::{Collection, Field, Id, Kind, Name, NameFault, Rule, Seq};
+use crate::texts::{plain_field as only_field, row_of_rec};
+use pocket_types::{Cell, Collection, Field, Id, Kind, Name, NameFault, Rec, Rule, Seq, Text};
 use std::alloc::{AllocError, Global};
 use std::cmp::Ordering;
 
@@ -215,4 +218,68 @@ fn inside_of<'a>(value: &'a str, name: &str) -> Option<&'a str>
         return None;
     };
     before(rest, behind_field(name))
+}
+
+/// The text whose escaped form may be this one. None only where no text has this escaped form.
+fn text_of(alloc: Global, inside: &str) -> Result<Option<Text>, AllocError>
+    ensures { IfOk result (λ found. MatchOption found
+        ((text : List ℕ) → IsUtf8 text → inside.now ≢ flat_map escape_byte text)
+        (λ t. IsUtf8 t × ((text : List ℕ) → inside.now ≡ flat_map escape_byte text → text ≡ t))) }
+{
+    let bytes = unescaped(alloc, inside.as_bytes())?;
+    match String::from_utf8(bytes) {
+        Ok(text) => Ok(Some(Text::from_string(text))),
+        Err(_) => Ok(None),
+    }
+}
+
+fn plain_rec(alloc: Global, id: Id, text: Text) -> Result<Rec, AllocError>
+    ensures { IfOk result (λ rec. rec ≡ plain_rec id text) }
+{
+    let mut cells = Seq::new(alloc);
+    cells.push(Cell::Text(text))?;
+    Ok(Rec {
+        id,
+        created: plain_moment(),
+        updated: plain_moment(),
+        cells,
+    })
+}
+
+/// The one record that may have the row. None only where no record has it.
+fn candidate(alloc: Global, collection: &Collection, row: &KeptRow) -> Result<Option<Rec>, AllocError>
+    requires { IsPlainCollection collection.now }
+    ensures { IfOk result (λ found. MatchOption found
+        (LacksRec collection.now row.now)
+        (λ r. IsPlainRec r × ((s : Rec) → IsPlainRec s → row.now ≡ rec_row collection.now s → s ≡ r))) }
+{
+    let Some(id) = id_of(row.key.as_str(), collection.name.as_str()) else {
+        return Ok(None);
+    };
+    let field = only_field(collection.fields.as_slice());
+    let Some(inside) = inside_of(row.value.as_str(), field.name.as_str()) else {
+        return Ok(None);
+    };
+    let Some(text) = text_of(alloc, inside)? else {
+        return Ok(None);
+    };
+    Ok(Some(plain_rec(alloc, id, text)?))
+}
+
+/// The record of a collection that a row keeps. None exactly where no record that `row_of_rec` takes has this row.
+pub fn read_rec(alloc: Global, collection: &Collection, row: &KeptRow) -> Result<Option<Rec>, AllocError>
+    requires { IsPlainCollection collection.now }
+    ensures { IfOk result (λ found. MatchOption found (LacksRec collection.now row.now) (λ r. HoldsRec collection.now row.now r)) }
+{
+    let Some(rec) = candidate(alloc, collection, row)? else {
+        return Ok(None);
+    };
+    let printed = row_of_rec(alloc, collection, &rec)?;
+    let same_key = printed.key == row.key;
+    let same_value = printed.value == row.value;
+    if same_key && same_value {
+        Ok(Some(rec))
+    } else {
+        Ok(None)
+    }
 }

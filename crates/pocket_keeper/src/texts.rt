@@ -68,7 +68,8 @@ fn map_jv(alloc: Global, entries: BTreeMap<Text, Jv>) -> Result<Jv, AllocError>
     Ok(Jv::Map(Seq::from_vec(members)))
 }
 
-fn plain_field(fields: &[Field]) -> &Field
+/// The field of a plain collection.
+pub fn plain_field(fields: &[Field]) -> &Field
     requires { HasPlainField fields.now }
     ensures list { fields.now ≡ result.now ∷ [] }
     ensures plain { IsPlainField result.now }
