@@ -1,22 +1,19 @@
 -- Plain collections and plain records, by their parts.
-use Rattle.std.proofs.Common.{◌≡◌, ◌≢◌, not, ℕ, List, [], ◌∷◌, ◌++◌, Bool, true, false, codes, IsTrue, IsUtf8, Option, Some, None, MatchOption, Result, Ok, Err, subst, refl, sym, ap, ◌∙◌}
+use Rattle.std.proofs.Common.{◌≡◌, ◌≢◌, not, ℕ, List, [], ◌∷◌, ◌++◌, Bool, true, false, codes, IsTrue, Option, Some, None, MatchOption, Result, Ok, Err, subst, refl, sym, ap, ◌∙◌}
 use Rattle.std.specs.Result.{IfOk}
 use Rattle.std.specs.Str.{bytes_eq}
 use Rattle.std.proofs.lemmas.Bool.{false≢true}
 use Rattle.std.proofs.lemmas.Slice.Eq.{bytes_eq-Decides}
 use Rattle.std.proofs.lemmas.List.{append_cancel_left}
-use Rattle.pocket_types.specs.declared.records.Cell.{Cell}
-use Rattle.pocket_types.specs.declared.records.Cell.TheVariants as cell
 use Rattle.pocket_types.specs.declared.records.Collection.{Collection}
 use Rattle.pocket_types.specs.declared.records.Field.{Field}
-use Rattle.pocket_types.specs.declared.records.Rec.{Rec}
 use Rattle.pocket_types.specs.declared.records.Rule.{Rule}
 use Rattle.pocket_types.specs.declared.records.Rule.TheVariants as rule
-use Rattle.pocket_types.specs.Names.{is_name, is_id}
+use Rattle.pocket_types.specs.Names.{is_name}
 use Rattle.pocket_types.specs.Json.{printed}
 use Rattle.pocket_keeper.specs.declared.rows.KeptRow.{KeptRow}
-use Rattle.pocket_keeper.specs.Parts.{HasNoByte, rule_of, plain_field, plain_collection, plain_rec, plain_text, front_text, middle_text, back_text}
-use Rattle.pocket_keeper.specs.Plain.{IsPlainRule, IsPlainField, HasPlainField, IsPlainCollection, HasPlainCell, IsPlainRec, IsFieldName, is_reserved, LacksCollection, HoldsCollection}
+use Rattle.pocket_keeper.specs.Parts.{HasNoByte, rule_of, plain_field, plain_collection, plain_text, middle_text, back_text}
+use Rattle.pocket_keeper.specs.Plain.{IsPlainRule, IsPlainField, HasPlainField, IsPlainCollection, IsFieldName, is_reserved, LacksCollection, HoldsCollection}
 use Rattle.pocket_keeper.specs.Texts.{collection_row, collection_jv}
 use Rattle.pocket_keeper.proofs.Printing.{name_lacks_quote}
 use Rattle.pocket_keeper.proofs.PlainTexts.{printed_collection}
@@ -59,16 +56,35 @@ parts_form c h =
     let u = rule_form c.update_rule h.update_rule in
     let v = rule_form c.view_rule h.view_rule in
     record {
-      create = a.0; delete = b.0; field = f.0; list = l.0; update = u.0; view = v.0; fit = f.2;
+      create = a.0;
+      delete = b.0;
+      field = f.0;
+      list = l.0;
+      update = u.0;
+      view = v.0;
+      fit = f.2;
       is = λ i. record {
-        name = c.name; is_auth = h.base i; fields = f.1 i; list_rule = l.1 i; view_rule = v.1 i; create_rule = a.1 i; update_rule = u.1 i; delete_rule = b.1 i
-      }
+        name = c.name;
+        is_auth = h.base i;
+        fields = f.1 i;
+        list_rule = l.1 i;
+        view_rule = v.1 i;
+        create_rule = a.1 i;
+        update_rule = u.1 i;
+        delete_rule = b.1 i;
+      };
     }
 
 pub parts_plain : (a b : Bool) (f : List ℕ) (l : Bool) (n : List ℕ) (u v : Bool) → IsTrue (is_name n) → IsFieldName f → IsPlainCollection (plain_collection a b f l n u v)
 parts_plain a b f l n u v hn hf = record {
-  name = hn; base = refl; fields = record { kind = refl; required = refl; hidden = refl; unique = refl; name = hf.0; free = hf.1 };
-  list_rule = rule_plain l; view_rule = rule_plain v; create_rule = rule_plain a; update_rule = rule_plain u; delete_rule = rule_plain b
+  name = hn;
+  base = refl;
+  fields = record { kind = refl; required = refl; hidden = refl; unique = refl; name = hf.0; free = hf.1 };
+  list_rule = rule_plain l;
+  view_rule = rule_plain v;
+  create_rule = rule_plain a;
+  update_rule = rule_plain u;
+  delete_rule = rule_plain b;
 }
 
 -- the text of a plain collection by its parts
@@ -139,10 +155,10 @@ found_collection row k a b f l n u v (Some c) ek ev hf hn en h = record {
   plain = subst (λ x. IsPlainCollection x) (sym h.0) (parts_plain a b f l n u v h.1 h.2);
   kept = (λ i. record { key = (ek ∙ ap (λ x. codes "c/" ++ x) (sym en)) i; value = (ev ∙ sym (printed_collection a b f l n u v h.2.0 h.1)) i }) ∙ ap collection_row (sym h.0);
   only = λ d plain e.
-  let p = parts_form d plain in
-  let text = ap (λ r. r.value) e ∙ text_form d plain p in
-  let same = text_once row.value a b f l n u v p.create p.delete p.field p.list d.name p.update p.view hf hn (name_lacks_quote p.field p.fit.0) (name_lacks_quote d.name plain.name) ev text in
-  p.is ∙ sym (λ i. plain_collection (same.create i) (same.delete i) (same.field i) (same.list i) (same.name i) (same.update i) (same.view i)) ∙ sym h.0
+      let p = parts_form d plain in
+      let text = ap (λ r. r.value) e ∙ text_form d plain p in
+      let same = text_once row.value a b f l n u v p.create p.delete p.field p.list d.name p.update p.view hf hn (name_lacks_quote p.field p.fit.0) (name_lacks_quote d.name plain.name) ev text in
+      p.is ∙ sym (λ i. plain_collection (same.create i) (same.delete i) (same.field i) (same.list i) (same.name i) (same.update i) (same.view i)) ∙ sym h.0;
 }
 
 pub ok_collection : (row : KeptRow) (k : List ℕ) (a b : Bool) (f : List ℕ) (l : Bool) (n : List ℕ) (u v : Bool) {E : Type 0} (r : Result (Option Collection) E) → row.key ≡ codes "c/" ++ k → row.value ≡ plain_text a b f l n u v

@@ -161,11 +161,11 @@ pub may_hold : (c : Collection) (f : Field) (row : KeptRow) (key value cname nam
 may_hold c f row key value cname name inside id t r ec hf ek ecn ev en hid eid ei ut once er = record {
   plain = subst (λ x. IsPlainRec x) (sym er) (rec_plain id t hid ut);
   only = λ s plain e.
-  let x = rec_form s plain in
-  let there = flat_map escape_byte x.0 in
-  let text : value ≡ plain_rec_text name there = ev ∙ ap (λ y. y.value) e ∙ rec_text c f s s.id x.0 ec hf x.1 ∙ ap (λ y. plain_rec_text y there) (sym en) in
-  let same : x.0 ≡ t = once x.0 (inside_once name inside there (sym ei ∙ text)) in
-  let keys : rec_key c.name s.id ≡ rec_key c.name id = sym (ap (λ y. y.key) e) ∙ sym ek ∙ eid ∙ ap (λ y. rec_key y id) ecn in
-  let ids : s.id ≡ id = append_cancel_left (47 ∷ []) s.id id (append_cancel_left c.name _ _ (append_cancel_left (codes "r/") _ _ keys)) in
-  x.1 ∙ (λ i. plain_rec (ids i) (same i)) ∙ sym er
+      let x = rec_form s plain in
+      let there = flat_map escape_byte x.0 in
+      let text : value ≡ plain_rec_text name there = ev ∙ ap (λ y. y.value) e ∙ rec_text c f s s.id x.0 ec hf x.1 ∙ ap (λ y. plain_rec_text y there) (sym en) in
+      let same : x.0 ≡ t = once x.0 (inside_once name inside there (sym ei ∙ text)) in
+      let keys : rec_key c.name s.id ≡ rec_key c.name id = sym (ap (λ y. y.key) e) ∙ sym ek ∙ eid ∙ ap (λ y. rec_key y id) ecn in
+      let ids : s.id ≡ id = append_cancel_left (47 ∷ []) s.id id (append_cancel_left c.name _ _ (append_cancel_left (codes "r/") _ _ keys)) in
+      x.1 ∙ (λ i. plain_rec (ids i) (same i)) ∙ sym er;
 }

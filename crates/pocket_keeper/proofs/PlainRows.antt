@@ -1,7 +1,7 @@
 -- Reading the keys and the values of rows.
-use Rattle.std.proofs.Common.{◌≡◌, ◌≢◌, ℕ, List, [], ◌∷◌, ◌++◌, Bool, true, false, codes, IsTrue, Option, Some, None, MatchOption, Bor, refl, sym, ap, ◌∙◌}
+use Rattle.std.proofs.Common.{◌≡◌, ◌≢◌, ℕ, List, ◌∷◌, ◌++◌, false, codes, IsTrue, Option, Some, None, MatchOption, Bor, sym, ap, ◌∙◌}
 use Rattle.std.proofs.lemmas.Bool.{false≢true}
-use Rattle.std.proofs.lemmas.List.{append_cancel_left, append_cancel_right}
+use Rattle.std.proofs.lemmas.List.{append_cancel_left}
 use Rattle.pocket_types.specs.Names.{is_id}
 use Rattle.pocket_keeper.specs.Parts.{before_field, behind_field, to_created, to_updated, plain_rec_text}
 use Rattle.pocket_keeper.specs.Texts.{rec_key}

@@ -1,7 +1,7 @@
 -- The texts of plain collections.
-use Rattle.std.proofs.Common.{◌≡◌, ◌≢◌, ℕ, List, [], ◌∷◌, ◌++◌, Bool, true, false, map, codes, pos, IsTrue, flat_map, refl, sym, ap, ◌∙◌, append_assoc}
+use Rattle.std.proofs.Common.{◌≡◌, ℕ, List, [], ◌∷◌, ◌++◌, Bool, false, map, codes, pos, IsTrue, refl, ap, ◌∙◌, append_assoc}
 use Rattle.pocket_types.specs.Names.{is_name}
-use Rattle.pocket_types.specs.Json.{printed, quoted, escape_byte}
+use Rattle.pocket_types.specs.Json.{printed, escape_byte}
 use Rattle.pocket_keeper.specs.Parts.{rule_of, rule_text, create_key, delete_key, fields_key, list_key, name_key, update_key, view_key, plain_field, plain_collection, plain_text}
 use Rattle.pocket_keeper.specs.Texts.{text_jv, flag_jv, num_jv, list_jv, rule_jv, field_jv, collection_jv, collection_members, field_members}
 use Rattle.pocket_keeper.proofs.Printing.{pair_text, joined, printed_joined, printed_list, printed_text, printed_false, printed_5000, printed_0, printed_rule, quoted_name, name_behind}

@@ -1,9 +1,8 @@
 -- The texts of trees.
-use Rattle.std.proofs.Common.{◌≡◌, ◌≢◌, ◌&&◌, ◌<◌, zero, suc, length, IsTrue, flat_map, arith, ℕ, List, [], ◌∷◌, ◌++◌, Bool, true, false, map, codes, ℤ, pos, append_assoc, refl, sym, ap, ◌∙◌, rules}
+use Rattle.std.proofs.Common.{◌≡◌, ◌≢◌, ◌&&◌, zero, suc, IsTrue, flat_map, arith, ℕ, List, [], ◌∷◌, ◌++◌, Bool, true, false, map, codes, ℤ, pos, append_assoc, refl, ap, ◌∙◌}
 use Rattle.std.specs.Fmt.{digits, signed_decimal}
 use Rattle.std.specs.List.{join_with_byte, list_all}
 use Rattle.pocket_types.specs.declared.json.Jv.{Jv}
-use Rattle.pocket_types.specs.declared.json.Member.{Member}
 use Rattle.pocket_types.specs.declared.json.Jv.TheFolds.{fold-roll-Jv, fold-roll-Member}
 use Rattle.pocket_types.specs.declared.json.Jv.TheOpen as jv
 use Rattle.pocket_types.specs.Json.{printed, printed_member, quoted, value_text, member_text, escape_byte}

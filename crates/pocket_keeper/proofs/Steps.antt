@@ -1,6 +1,5 @@
 -- Each step of taking a text apart has one outcome.
-use Rattle.std.proofs.Common.{◌≡◌, ◌≢◌, ℕ, zero, suc, ◌<◌, Bool, true, false, List, [], ◌∷◌, ◌++◌, length, get_or, Option, Some, None, MatchOption, Bor, codes, refl, sym, ap, ◌∙◌, arith}
-use Rattle.std.proofs.lemmas.Grind.{common_steps}
+use Rattle.std.proofs.Common.{◌≡◌, ◌≢◌, ℕ, suc, ◌<◌, Bool, true, false, List, [], ◌∷◌, ◌++◌, length, get_or, Option, Some, None, MatchOption, Bor, codes, refl, sym, ap, ◌∙◌, arith}
 use Rattle.std.proofs.lemmas.List.{append_cancel_left}
 use Rattle.pocket_keeper.specs.Parts.{HasNoByte, rule_text, create_key, delete_key, fields_key, list_key, name_key, update_key, view_key, two_rules, quoted_word, front_text, middle_text, back_text}
 use Rattle.std.specs.Str.{bytes_eq}

@@ -3,7 +3,7 @@ use Rattle.std.specs.Prelude.{◌≡◌, ◌≢◌, ℕ, ◌<◌, length, slice_
 use denote.Ref.{Bor}
 use Rattle.std.specs.Ordering.{nat_cmp}
 use Rattle.std.specs.declared.cmp.Ordering.{Ordering}
-use Rattle.std.specs.declared.cmp.Ordering.TheVariants.{Less, Equal, Greater}
+use Rattle.std.specs.declared.cmp.Ordering.TheVariants.{Less}
 use Rattle.std.specs.Cmp.Lexicographic.{slice_cmp}
 use Rattle.pocket_types.specs.declared.records.Cell.TheVariants as cell
 use Rattle.pocket_types.specs.declared.records.Collection.{Collection}
@@ -90,8 +90,14 @@ plain_field name = record { name = name; kind = kind.Text 0 5000; required = fal
 abbrev pub plain_collection : Bool → Bool → List ℕ → Bool → List ℕ → Bool → Bool → Collection
 plain_collection create delete field list name update view =
     record {
-      name = name; is_auth = false; fields = plain_field field ∷ []; list_rule = rule_of list; view_rule = rule_of view;
-      create_rule = rule_of create; update_rule = rule_of update; delete_rule = rule_of delete
+      name = name;
+      is_auth = false;
+      fields = plain_field field ∷ [];
+      list_rule = rule_of list;
+      view_rule = rule_of view;
+      create_rule = rule_of create;
+      update_rule = rule_of update;
+      delete_rule = rule_of delete;
     }
 
 -- the plain record of this id and text

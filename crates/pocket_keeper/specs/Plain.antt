@@ -1,5 +1,5 @@
 -- The collections and records that rows may hold so far.
-use Rattle.std.specs.Prelude.{◌≡◌, ◌≢◌, ℕ, ◌==◌, ◌||◌, not, List, [], ◌∷◌, codes, Bool, false, pos, IsTrue, IsUtf8}
+use Rattle.std.specs.Prelude.{◌≡◌, ◌≢◌, ℕ, ◌||◌, List, [], ◌∷◌, codes, Bool, false, IsTrue, IsUtf8}
 use Rattle.std.specs.Str.{bytes_eq}
 use Rattle.pocket_types.specs.declared.records.Cell.{Cell}
 use Rattle.pocket_types.specs.declared.records.Cell.TheVariants as cell

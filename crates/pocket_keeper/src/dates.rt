@@ -3,7 +3,6 @@ ghost use Rattle.pocket_keeper.specs.Dates.{date_text, plain_moment};
 
 use pocket_types::Moment;
 
-
 /// 2024-01-01 00:00 in UTC.
 pub fn plain_moment() -> Moment
     ensures { result ≡ plain_moment }

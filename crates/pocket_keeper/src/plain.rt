@@ -103,7 +103,12 @@ fn plain_fields(alloc: Global, name: Name) -> Result<Seq<Field>, AllocError>
     Ok(fields)
 }
 
-fn plain_collection(alloc: Global, name: Name, field: Name, parts: &Parts<'_>) -> Result<Collection, AllocError>
+fn plain_collection(
+    alloc: Global,
+    name: Name,
+    field: Name,
+    parts: &Parts<'_>,
+) -> Result<Collection, AllocError>
     ensures { IfOk result (λ c. c ≡ plain_collection parts.now.create parts.now.delete field parts.now.list name parts.now.update parts.now.view) }
 {
     Ok(Collection {
@@ -184,7 +189,8 @@ fn before_field(name: &str) -> &'static str
         Ordering::Less => "{\"",
         _ => match name.cmp("updated") {
             Ordering::Less => "{\"created\":\"2024-01-01 00:00:00.000Z\",\"",
-            _ => "{\"created\":\"2024-01-01 00:00:00.000Z\",\"updated\":\"2024-01-01 00:00:00.000Z\",\"",
+            _ =>
+                "{\"created\":\"2024-01-01 00:00:00.000Z\",\"updated\":\"2024-01-01 00:00:00.000Z\",\"",
         },
     }
 }
@@ -194,7 +200,8 @@ fn behind_field(name: &str) -> &'static str
     ensures { result.now ≡ behind_field (to_created name.now) (to_updated name.now) }
 {
     match name.cmp("created") {
-        Ordering::Less => "\",\"created\":\"2024-01-01 00:00:00.000Z\",\"updated\":\"2024-01-01 00:00:00.000Z\"}",
+        Ordering::Less =>
+            "\",\"created\":\"2024-01-01 00:00:00.000Z\",\"updated\":\"2024-01-01 00:00:00.000Z\"}",
         _ => match name.cmp("updated") {
             Ordering::Less => "\",\"updated\":\"2024-01-01 00:00:00.000Z\"}",
             _ => "\"}",
@@ -247,7 +254,11 @@ fn plain_rec(alloc: Global, id: Id, text: Text) -> Result<Rec, AllocError>
 }
 
 /// The one record that may have the row. None only where no record has it.
-fn candidate(alloc: Global, collection: &Collection, row: &KeptRow) -> Result<Option<Rec>, AllocError>
+fn candidate(
+    alloc: Global,
+    collection: &Collection,
+    row: &KeptRow,
+) -> Result<Option<Rec>, AllocError>
     requires { IsPlainCollection collection.now }
     ensures { IfOk result (λ found. MatchOption found
         (LacksRec collection.now row.now)
@@ -267,7 +278,11 @@ fn candidate(alloc: Global, collection: &Collection, row: &KeptRow) -> Result<Op
 }
 
 /// The record of a collection that a row keeps. None exactly where no record that `row_of_rec` takes has this row.
-pub fn read_rec(alloc: Global, collection: &Collection, row: &KeptRow) -> Result<Option<Rec>, AllocError>
+pub fn read_rec(
+    alloc: Global,
+    collection: &Collection,
+    row: &KeptRow,
+) -> Result<Option<Rec>, AllocError>
     requires { IsPlainCollection collection.now }
     ensures { IfOk result (λ found. MatchOption found (LacksRec collection.now row.now) (λ r. HoldsRec collection.now row.now r)) }
 {

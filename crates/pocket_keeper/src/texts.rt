@@ -38,7 +38,12 @@ fn rule_jv(alloc: Global, rule: &Rule) -> Result<Jv, AllocError>
     }
 }
 
-fn push_member(members: &mut Vec<Member>, alloc: Global, key: &str, value: Jv) -> Result<(), AllocError>
+fn push_member(
+    members: &mut Vec<Member>,
+    alloc: Global,
+    key: &str,
+    value: Jv,
+) -> Result<(), AllocError>
     ensures { IfOk result (λ _. members.new.items ≡ members.old.items ++ member_of (key.now, value) ∷ []) }
 {
     let key = Text::from_str(alloc, key)?;
@@ -46,13 +51,23 @@ fn push_member(members: &mut Vec<Member>, alloc: Global, key: &str, value: Jv) -
     Ok(())
 }
 
-fn push_text(members: &mut Vec<Member>, alloc: Global, key: &str, text: &str) -> Result<(), AllocError>
+fn push_text(
+    members: &mut Vec<Member>,
+    alloc: Global,
+    key: &str,
+    text: &str,
+) -> Result<(), AllocError>
     ensures { IfOk result (λ _. members.new.items ≡ members.old.items ++ member_of (key.now, text_jv text.now) ∷ []) }
 {
     push_member(members, alloc, key, text_jv(alloc, text)?)
 }
 
-fn push_rule(members: &mut Vec<Member>, alloc: Global, key: &str, rule: &Rule) -> Result<(), AllocError>
+fn push_rule(
+    members: &mut Vec<Member>,
+    alloc: Global,
+    key: &str,
+    rule: &Rule,
+) -> Result<(), AllocError>
     ensures { IfOk result (λ _. members.new.items ≡ members.old.items ++ member_of (key.now, rule_jv rule.now) ∷ []) }
 {
     push_member(members, alloc, key, rule_jv(alloc, rule)?)
@@ -159,7 +174,12 @@ pub fn collection_jv(alloc: Global, collection: &Collection) -> Result<Jv, Alloc
 
 /// The dates of a record and its field, by key.
 #[tactic(auto, unfolding(crate::specs::Texts::put))]
-fn rec_members(alloc: Global, collection: &Collection, rec: &Rec, hidden: bool) -> Result<BTreeMap<Text, Jv>, AllocError>
+fn rec_members(
+    alloc: Global,
+    collection: &Collection,
+    rec: &Rec,
+    hidden: bool,
+) -> Result<BTreeMap<Text, Jv>, AllocError>
     requires collection { IsPlainCollection collection.now }
     requires rec { IsPlainRec rec.now }
     ensures { IfOk result (λ members. members.entries ≡ rec_members hidden collection.now rec.now) }
@@ -174,7 +194,12 @@ fn rec_members(alloc: Global, collection: &Collection, rec: &Rec, hidden: bool) 
 }
 
 #[tactic(auto, unfolding(crate::specs::Texts::put))]
-fn put(members: &mut BTreeMap<Text, Jv>, alloc: Global, key: &str, text: &str) -> Result<(), AllocError>
+fn put(
+    members: &mut BTreeMap<Text, Jv>,
+    alloc: Global,
+    key: &str,
+    text: &str,
+) -> Result<(), AllocError>
     ensures { IfOk result (λ _. members.new.entries ≡ put key.now (text_jv text.now) members.old.entries) }
 {
     let key = Text::from_str(alloc, key)?;
@@ -186,13 +211,23 @@ fn put(members: &mut BTreeMap<Text, Jv>, alloc: Global, key: &str, text: &str) -
 /// The JSON of a record as it is shown: with its hidden fields for the administrator, else without them.
 ///
 /// So far the collection is one that `collection_jv` takes, and the record has one text and the dates 2024-01-01.
-pub fn rec_jv(alloc: Global, collection: &Collection, rec: &Rec, hidden: bool) -> Result<Jv, AllocError>
+pub fn rec_jv(
+    alloc: Global,
+    collection: &Collection,
+    rec: &Rec,
+    hidden: bool,
+) -> Result<Jv, AllocError>
     requires collection { IsPlainCollection collection.now }
     requires rec { IsPlainRec rec.now }
     ensures { IfOk result (λ tree. tree ≡ rec_jv collection.now rec.now hidden) }
 {
     let mut members = rec_members(alloc, collection, rec, hidden)?;
-    put(&mut members, alloc, "collectionName", collection.name.as_str())?;
+    put(
+        &mut members,
+        alloc,
+        "collectionName",
+        collection.name.as_str(),
+    )?;
     put(&mut members, alloc, "id", rec.id.as_str())?;
     map_jv(alloc, members)
 }
@@ -205,7 +240,10 @@ pub fn row_of_collection(alloc: Global, collection: &Collection) -> Result<KeptR
     let mut key = String::from_str(alloc, "c/")?;
     key.push_str(collection.name.as_str())?;
     let value = collection_jv(alloc, collection)?.print(alloc)?;
-    Ok(KeptRow { key: Text::from_string(key), value })
+    Ok(KeptRow {
+        key: Text::from_string(key),
+        value,
+    })
 }
 
 /// The row that keeps a record, which is one that `rec_jv` takes.
@@ -220,5 +258,8 @@ pub fn row_of_rec(alloc: Global, collection: &Collection, rec: &Rec) -> Result<K
     key.push_str(rec.id.as_str())?;
     let members = rec_members(alloc, collection, rec, true)?;
     let value = map_jv(alloc, members)?.print(alloc)?;
-    Ok(KeptRow { key: Text::from_string(key), value })
+    Ok(KeptRow {
+        key: Text::from_string(key),
+        value,
+    })
 }

@@ -1,4 +1,4 @@
-use Rattle.std.proofs.Common.{sym, ap, ◌∙◌}
+use Rattle.std.proofs.Common.{sym, ◌∙◌}
 use Rattle.pocket_keeper.proofs.EscapeForms.{none_empty, plain_first, none_lone, short_first, long_first}
 use Rattle.pocket_keeper.proofs.escapes.first_byte.Goals as goal
 
