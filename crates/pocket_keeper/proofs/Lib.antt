@@ -1,4 +1,6 @@
 pub mod EscapeForms
+pub mod KeepingLemmas
+pub mod PlaceLemmas
 pub mod PlainForms
 pub mod PlainRecs
 pub mod PlainRows

@@ -11,6 +11,7 @@ mod print;
 mod records;
 mod requests;
 mod seq;
+mod steps;
 mod text;
 mod world;
 
@@ -23,5 +24,6 @@ pub use names::{Name, NameFault};
 pub use records::{Cell, Collection, Field, Kind, Rec, Rule};
 pub use requests::{Action, Caller, Method, Pair};
 pub use seq::Seq;
+pub use steps::Steps;
 pub use text::Text;
 pub use world::{Shelf, World};

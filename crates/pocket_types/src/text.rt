@@ -4,6 +4,7 @@ ghost use Rattle.std.specs.String.{string_bytes};
 use crate::exact::{Exact, Faithful};
 use std::alloc::{AllocError, Global};
 use std::cmp::Ordering;
+use std::fmt;
 use std::marker::Model;
 
 /// A text in UTF-8, which contracts see as its bytes. Order is that of the bytes.
@@ -54,6 +55,12 @@ impl Text {
         ensures { result ≡ length self.now }
     {
         self.0.len()
+    }
+}
+
+impl fmt::Display for Text {
+    fn fmt<W: fmt::Write>(&self, f: &mut fmt::Formatter<W>) -> fmt::Result {
+        f.write_str(self.as_str())
     }
 }
 

@@ -1,0 +1,38 @@
+-- What a keeper holds after a commit, and what a call of it may answer.
+use Rattle.std.specs.Prelude.{◌≡◌, ℕ, ◌≤◌, List, ◌∷◌, ◌++◌, not, filter, fold, Result, IfErr}
+use Rattle.std.specs.List.{list_any}
+use Rattle.std.specs.Str.{bytes_eq}
+use Rattle.pocket_types.specs.Causes.{Rose}
+use Rattle.pocket_types.specs.Order.{is_before}
+use Rattle.pocket_keeper.specs.declared.rows.KeptRow.{KeptRow}
+use Rattle.pocket_keeper.specs.declared.rows.KeepFault.{KeepFault}
+use Rattle.pocket_keeper.specs.declared.rows.KeepFault.TheVariants.{Failed}
+
+-- the rows whose keys stand before this one
+abbrev pub rows_before : List ℕ → List KeptRow → List KeptRow
+rows_before key rows = filter (λ row. is_before row.key key) rows
+
+-- the rows whose keys stand after this one
+abbrev pub rows_after : List ℕ → List KeptRow → List KeptRow
+rows_after key rows = filter (λ row. is_before key row.key) rows
+
+-- the rows with this one, at its place and in place of a row of its key
+abbrev pub put_row : KeptRow → List KeptRow → List KeptRow
+put_row row rows = rows_before row.key rows ++ row ∷ rows_after row.key rows
+
+-- the rows with each of these put, in their order
+abbrev pub rows_with : List KeptRow → List KeptRow → List KeptRow
+rows_with puts rows = fold (λ kept row. put_row row kept) rows puts
+
+-- the rows whose keys are none of these
+abbrev pub rows_without : List (List ℕ) → List KeptRow → List KeptRow
+rows_without cuts rows = filter (λ row. not (list_any (bytes_eq row.key) cuts)) rows
+
+-- the rows after a commit: the cuts are made first, then the puts in their order
+abbrev pub committed : List KeptRow → List KeptRow → List (List ℕ) → List KeptRow
+committed rows puts cuts = rows_with puts (rows_without cuts rows)
+
+-- the count of faults didn't fall, and `Failed` comes only where it rose
+pub record HasKeepCause {T : Type 0} (before now : ℕ) (result : Result T KeepFault) : Type 0 where
+  pub later : before ≤ now
+  pub failed : IfErr result (λ fault. fault ≡ Failed → Rose before now)
