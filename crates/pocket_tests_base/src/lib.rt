@@ -3,3 +3,6 @@
 
 #[cfg(test)]
 mod keeper;
+
+#[cfg(test)]
+mod rows;
