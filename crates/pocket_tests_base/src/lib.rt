@@ -3,6 +3,5 @@
 
 #[cfg(test)]
 mod keeper;
-
 #[cfg(test)]
 mod rows;
