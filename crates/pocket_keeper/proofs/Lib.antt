@@ -1,2 +1,9 @@
+pub mod EscapeForms
 pub mod KeepingLemmas
 pub mod PlaceLemmas
+pub mod PlainForms
+pub mod PlainRecs
+pub mod PlainRows
+pub mod PlainTexts
+pub mod Printing
+pub mod Steps

@@ -1,3 +1,7 @@
-pub mod Rows
+pub mod Dates
 pub mod Keeping
+pub mod Parts
 pub mod Places
+pub mod Plain
+pub mod Rows
+pub mod Texts

@@ -1,11 +1,18 @@
-//! The rows that stand for a state, and the keepers that hold them.
+//! The rows that stand for a state, how they are printed and read, and the keepers that hold them.
 #![tactic(auto)]
 
+mod dates;
+mod escapes;
 mod keeper;
 mod memory;
+mod parts;
+mod plain;
 mod rows;
 mod sorted;
+mod texts;
 
 pub use keeper::{Committer, Keeper};
 pub use memory::MemoryKeeper;
+pub use plain::{read_collection, read_rec, rec_key};
 pub use rows::{KeepFault, KeptRow};
+pub use texts::{collection_jv, rec_jv, row_of_collection, row_of_rec};

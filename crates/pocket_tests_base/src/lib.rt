@@ -1,4 +1,4 @@
-//! Tests of the crates below the machine, through their public calls: one module a crate or part.
+//! Tests of the public calls of the crates below the machine, a module for each crate or part.
 #![tactic(auto)]
 
 #[cfg(test)]
