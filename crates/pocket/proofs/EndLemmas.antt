@@ -1,0 +1,110 @@
+-- How a session ends.
+use Rattle.std.proofs.Common.{◌≡◌, ◌⊎◌, inl, inr, ℕ, List, [], ◌∷◌, ◌++◌, Option, Some, None, true, false, length, refl, sym, ◌∙◌, ap, subst}
+use Rattle.std.specs.Io.KnownBytes.{Appends}
+use Rattle.std.proofs.lemmas.List.{append-nil}
+use Rattle.pocket_wire.specs.Phrases.{refused_bytes}
+use Rattle.pocket_wire.specs.Requests.{RequestsOf}
+use Rattle.pocket_wire.specs.declared.request.Ended.{Ended}
+use Rattle.pocket_wire.specs.declared.request.Ended.TheVariants.{Done, Refused, SourceFault, SinkFault, Memory}
+use Rattle.pocket_wire.specs.declared.request.Request.{Request}
+use Rattle.pocket_core.specs.Replies.{no_memory_text}
+use Rattle.pocket_core.specs.States.{MachineState}
+use Rattle.pocket.specs.Sending.{IsClosing, IsSent}
+use Rattle.pocket.specs.Serving.{IsAnswered, IsUnanswered, Takes}
+use Rattle.pocket.specs.Sessions.{Exchanges, IsCutShort, IsSession, IsWhole}
+use Rattle.pocket.specs.declared.status.Turn.{Turn}
+
+-- the session of these bytes ended so, and the sink took what it sent
+abbrev pub Ends : MachineState → List Turn → List ℕ → Option (List ℕ) → Option (List ℕ) → ℕ → ℕ → Ended → Type 0
+Ends opening turns bytes old new before now ended =
+    (out : List ℕ) × IsSession opening [] turns bytes out ended × Takes old new before now out ended
+
+module _ (opening : MachineState) (turns : List Turn) (bytes : List ℕ) (old new : Option (List ℕ)) (before now : ℕ) where
+
+  -- memory was wanting
+  cut_short : (length turns ≡ 0) ⊎ (length turns ≡ 1) → IsCutShort opening [] turns bytes (no_memory_text true)
+  cut_short few = record {
+    requests = [];
+    stand = inl refl;
+    before = [];
+    said = [];
+    exchanges = (refl, refl);
+    last = turns;
+    turns_are = refl;
+    at_most_one = few;
+    sent = refl;
+  }
+
+  pub closes : (ended : Ended) → (length turns ≡ 0) ⊎ (length turns ≡ 1) → IsClosing old new before now ended → Ends opening turns bytes old new before now ended
+  closes ended few (e, some) =
+      subst (λ end. Ends opening turns bytes old new before now end) (sym e) (no_memory_text true, cut_short few, some)
+
+  -- the one request was answered
+  whole : (request : Request) (ended : Ended) → RequestsOf bytes (request ∷ []) Done → (a : IsAnswered opening request turns old new before now ended)
+      → IsWhole opening [] turns bytes a.text Done
+  whole request ended stand a = record {
+    requests = request ∷ [];
+    stand = stand;
+    said = a.text;
+    exchanges =
+        subst (λ t. Exchanges opening [] 0 (request ∷ []) t a.text) (sym a.turns_are)
+        (a.text, [], 0, a.exchange, sym (append-nil a.text), (refl, refl));
+    sent = sym (append-nil a.text);
+  }
+
+  answered : (request : Request) (ended : Ended) → RequestsOf bytes (request ∷ []) Done → (a : IsAnswered opening request turns old new before now ended)
+      → IsSent old new before now a.text Done ended → Ends opening turns bytes old new before now ended
+  answered request ended stand a (inl (e, all)) =
+      subst (λ end. Ends opening turns bytes old new before now end) (sym e) (a.text, whole request ended stand a, all)
+  answered request ended stand a (inr (e, front, rose)) =
+      subst (λ end. Ends opening turns bytes old new before now end) (sym e) (a.text, (Done, whole request ended stand a), (front, rose))
+
+  pub ends_request : (request : Request) (ended : Ended) → RequestsOf bytes (request ∷ []) Done
+      → IsAnswered opening request turns old new before now ended ⊎ IsUnanswered turns old new before now ended → Ends opening turns bytes old new before now ended
+  ends_request request ended stand (inl a) = answered request ended stand a a.sent
+  ends_request request ended stand (inr u) = closes ended u.at_most_one u.closed
+
+  -- bytes that aren't a request
+  refusal : (status : ℕ) → turns ≡ [] → RequestsOf bytes [] (Refused status) → IsWhole opening [] turns bytes (refused_bytes status) (Refused status)
+  refusal status none stand = record {
+    requests = [];
+    stand = stand;
+    said = [];
+    exchanges = subst (λ t. Exchanges opening [] 0 [] t []) (sym none) (refl, refl);
+    sent = refl;
+  }
+
+  refused : (status : ℕ) (ended : Ended) → turns ≡ [] → RequestsOf bytes [] (Refused status) → IsSent old new before now (refused_bytes status) (Refused status) ended
+      → Ends opening turns bytes old new before now ended
+  refused status ended none stand (inl (e, all)) =
+      subst (λ end. Ends opening turns bytes old new before now end) (sym e) (refused_bytes status, refusal status none stand, all)
+  refused status ended none stand (inr (e, front, rose)) =
+      subst (λ end. Ends opening turns bytes old new before now end) (sym e) (refused_bytes status, (Refused status, refusal status none stand), (front, rose))
+
+  pub ends_refused : (status : ℕ) (ended : Ended) → turns ≡ [] → RequestsOf bytes [] (Refused status)
+      → IsSent old new before now (refused_bytes status) (Refused status) ended ⊎ IsClosing old new before now ended → Ends opening turns bytes old new before now ended
+  ends_refused status ended none stand (inl sent) = refused status ended none stand sent
+  ends_refused status ended none stand (inr closed) = closes ended (inl (ap length none)) closed
+
+-- what isn't told or isn't touched grows by nothing
+pub appends_none : (told : Option (List ℕ)) → Appends told told []
+appends_none None = tt
+appends_none (Some bytes) = sym (append-nil bytes)
+
+pub ends_quiet : (opening : MachineState) (turns : List Turn) (bytes : List ℕ) (told : Option (List ℕ)) (count : ℕ) → turns ≡ [] → bytes ≡ []
+    → Ends opening turns bytes told told count count Done
+ends_quiet opening turns bytes told count none empty = (
+  [],
+  record {
+    requests = [];
+    stand = empty;
+    said = [];
+    exchanges = subst (λ t. Exchanges opening [] 0 [] t []) (sym none) (refl, refl);
+    sent = refl;
+  },
+  appends_none told,
+)
+
+pub ends_unread : (opening : MachineState) (turns : List Turn) (bytes : List ℕ) (told : Option (List ℕ)) (count : ℕ) → turns ≡ []
+    → Ends opening turns bytes told told count count SourceFault
+ends_unread opening turns bytes told count none = ([], subst (λ t. Exchanges opening [] 0 [] t []) (sym none) (refl, refl), appends_none told)

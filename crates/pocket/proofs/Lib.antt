@@ -1,0 +1,4 @@
+pub mod WordLemmas
+pub mod SendingLemmas
+pub mod SessionLemmas
+pub mod EndLemmas

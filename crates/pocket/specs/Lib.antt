@@ -1,0 +1,8 @@
+pub mod Drawing
+pub mod Exits
+pub mod Runs
+pub mod Sample
+pub mod Sending
+pub mod Serving
+pub mod Sessions
+pub mod Words

@@ -1,0 +1,4 @@
+pub mod HeaderLemmas
+pub mod FramingLemmas
+pub mod ListLemmas
+pub mod OpeningLemmas
