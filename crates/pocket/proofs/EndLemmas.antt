@@ -20,7 +20,6 @@ Ends opening turns bytes old new before now ended =
     (out : List ℕ) × IsSession opening [] turns bytes out ended × Takes old new before now out ended
 
 module _ (opening : MachineState) (turns : List Turn) (bytes : List ℕ) (old new : Option (List ℕ)) (before now : ℕ) where
-
   -- memory was wanting
   cut_short : (length turns ≡ 0) ⊎ (length turns ≡ 1) → IsCutShort opening [] turns bytes (no_memory_text true)
   cut_short few = record {

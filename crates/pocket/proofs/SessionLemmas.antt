@@ -117,7 +117,6 @@ drawn_more moments moments_now words words_now draw ended e m w = record {
 module _ (opening : MachineState) (journal : List Work) (request : Request) (old new : List Turn) (at : ℕ) (draw : Draw) (work : Work) (fresh : journal ≡ [])
     (none : old ≡ []) (is_work : IsWorkOf request draw work) (place : at ≡ length journal)
     (noted : new ≡ old ++ record { at = at; draw = work.draw } ∷ []) where
-
   abbrev turn : Turn
   turn = record { at = at; draw = work.draw }
 

@@ -1,7 +1,6 @@
 pub mod Drawing
 pub mod Exits
 pub mod Runs
-pub mod Sample
 pub mod Sending
 pub mod Serving
 pub mod Sessions

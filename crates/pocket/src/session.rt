@@ -12,7 +12,10 @@ use crate::status::Turn;
 use pocket_core::{Draw, Reply, ReplyBody, State, no_memory_reply, reply_bytes, work_of};
 use pocket_keeper::Committer;
 use pocket_types::{Seq, Steps};
-use pocket_wire::{Clock, Dice, Ended, Inbox, Next, Request, Sink, Source, WireFault, next_request, refused_reply, write_all};
+use pocket_wire::{
+    Clock, Dice, Ended, Inbox, Next, Request, Sink, Source, WireFault, next_request, refused_reply,
+    write_all,
+};
 use std::alloc::{AllocError, Global};
 use std::sync::ledger::Ledger;
 
@@ -39,7 +42,7 @@ fn close_without_memory<O: Sink>(sink: &mut O) -> Ended
 /// Sends a reply that isn't the connection's last.
 fn send_reply<O: Sink>(alloc: Global, sink: &mut O, reply: &Reply) -> Ended
     ensures sent { IsSent (O.taken sink.old) (O.taken sink.new) (O.faults sink.old) (O.faults sink.new)
-            (sent_text reply.now.status reply.now.body) Done result
+        (sent_text reply.now.status reply.now.body) Done result
         ⊎ IsClosing (O.taken sink.old) (O.taken sink.new) (O.faults sink.old) (O.faults sink.new) result }
     ensures count { O.faults sink.old ≤ O.faults sink.new }
 {
@@ -56,7 +59,7 @@ fn send_reply<O: Sink>(alloc: Global, sink: &mut O, reply: &Reply) -> Ended
 fn refuse<O: Sink>(alloc: Global, sink: &mut O, status: u16) -> Ended
     requires { IsReplyStatus status }
     ensures sent { IsSent (O.taken sink.old) (O.taken sink.new) (O.faults sink.old) (O.faults sink.new) (refused_bytes status)
-            (Refused status) result
+        (Refused status) result
         ⊎ IsClosing (O.taken sink.old) (O.taken sink.new) (O.faults sink.old) (O.faults sink.new) result }
     ensures count { O.faults sink.old ≤ O.faults sink.new }
 {
@@ -150,7 +153,9 @@ pub(crate) fn run_session<S: Source, O: Sink, K: Committer, C: Clock, D: Dice, L
     let mut inbox = Inbox::new(alloc);
     match next_request(alloc, &mut inbox, source) {
         Ok(Next::Request(request)) => {
-            answer_request(alloc, state, keeper, sink, clock, dice, steps, turns, &request)
+            answer_request(
+                alloc, state, keeper, sink, clock, dice, steps, turns, &request,
+            )
         }
         Ok(Next::End) => Ended::Done,
         Ok(Next::Truncated) => Ended::Truncated,

@@ -85,15 +85,27 @@ impl fmt::Display for RunEnd {
         match self {
             RunEnd::Session(Ended::Done) => f.write_str("done"),
             RunEnd::Session(Ended::Closed) => f.write_str("the last request asked for the end"),
-            RunEnd::Session(Ended::Refused(status)) => write!(f, "the input isn't a request, and was answered {status}"),
+            RunEnd::Session(Ended::Refused(status)) => write!(
+                f,
+                "the input isn't a request, and was answered {status}"
+            ),
             RunEnd::Session(Ended::Truncated) => f.write_str("the input ended inside a request"),
-            RunEnd::Session(Ended::Limit) => f.write_str("as many requests were answered as a connection may have"),
-            RunEnd::SourceFault | RunEnd::Session(Ended::SourceFault) => f.write_str("the input can't be read"),
-            RunEnd::SinkFault | RunEnd::Session(Ended::SinkFault) => f.write_str("the output can't be written"),
+            RunEnd::Session(Ended::Limit) => f.write_str(
+                "as many requests were answered as a connection may have",
+            ),
+            RunEnd::SourceFault | RunEnd::Session(Ended::SourceFault) => f.write_str(
+                "the input can't be read",
+            ),
+            RunEnd::SinkFault | RunEnd::Session(Ended::SinkFault) => f.write_str(
+                "the output can't be written",
+            ),
             RunEnd::Memory | RunEnd::Session(Ended::Memory) => f.write_str("out of memory"),
             RunEnd::Words => f.write_str("the words aren't good"),
             RunEnd::KeeperFault => f.write_str("the store can't be read or written"),
-            RunEnd::BadStore(key) => write!(f, "bad row {key}: the server would not have written it so"),
+            RunEnd::BadStore(key) => write!(
+                f,
+                "bad row {key}: the server would not have written it so"
+            ),
             RunEnd::Faults(count) => write!(f, "{count} faults"),
             RunEnd::BadInput => f.write_str("the input isn't a list of collections"),
             RunEnd::NotEmpty => f.write_str("the store has rows already"),

@@ -162,7 +162,7 @@ rec_more_from (t ∷ ts) zero s r x e h =
             | inl here ↦
                 in_front (shelf_rows (with_rec s r)) (shelves_rows ts) x
                 (subst (λ l. IsIn x l) (sym (shelf_rows_more s r))
-                    (in_front (shelf_rows s) (rec_row s.collection r ∷ []) x (subst (λ u. IsIn x (shelf_rows u)) same here)))
+                (in_front (shelf_rows s) (rec_row s.collection r ∷ []) x (subst (λ u. IsIn x (shelf_rows u)) same here)))
             | inr later ↦ in_back (shelf_rows (with_rec s r)) (shelves_rows ts) x later
           ]
       | inr q ↦
@@ -218,7 +218,6 @@ good_row rows k shelves x read h =
 
 module _ (rows : List KeptRow) (k : ℕ) (shelves : List Shelf) (row : KeptRow) (rising : IsRising rows) (within : k < length rows)
     (is : row ≡ get_or rows k row) (read : AreReadFrom rows k shelves) where
-
   -- what the shelves hold stands before the row
   held_before : (x : KeptRow) → IsIn x (shelves_rows shelves) → IsBefore x.key row.key
   held_before x h = read_before rows k row x rising within is (read.from x h)
@@ -235,11 +234,11 @@ module _ (rows : List KeptRow) (k : ℕ) (shelves : List Shelf) (row : KeptRow) 
       let empty : Shelf = record { collection = c; recs = [] } in
       let e : shelves_rows new ≡ shelves_rows shelves ++ collection_row c ∷ [] = ap shelves_rows a.added ∙ shelf_more shelves c in
       let below : All (λ s. IsBefore s.collection.name c.name) shelves =
-          all_from_in (λ s. IsBefore s.collection.name c.name) shelves
-          (λ s i. names_before s.collection c (subst (λ x. IsBefore (collection_row s.collection).key (key_of x)) a.holds.kept (held_before (collection_row s.collection) (shelf_in s i)))) in
+      all_from_in (λ s. IsBefore s.collection.name c.name) shelves
+      (λ s i. names_before s.collection c (subst (λ x. IsBefore (collection_row s.collection).key (key_of x)) a.holds.kept (held_before (collection_row s.collection) (shelf_in s i)))) in
       let plain : All IsPlainShelf (shelves ++ empty ∷ []) =
-          All-push IsPlainShelf shelves empty read.plain
-          (record { collection = a.holds.plain; recs = λ j d w. absurd (omega (arith, w)); rising = rises_nil (λ r. r.id) }) in
+      All-push IsPlainShelf shelves empty read.plain
+      (record { collection = a.holds.plain; recs = λ j d w. absurd (omega (arith, w)); rising = rises_nil (λ r. r.id) }) in
       let up : Rises name_of (shelves ++ empty ∷ []) = rises_push name_of shelves empty read.rising below in
       let one : All IsOnly (shelves ++ empty ∷ []) = All-push IsOnly shelves empty read.only (λ d p q. a.holds.only d p (a.holds.kept ∙ q)) in
       record {
@@ -269,8 +268,8 @@ module _ (rows : List KeptRow) (k : ℕ) (shelves : List Shelf) (row : KeptRow) 
       let row_is : row ≡ rec_row s.collection r = a.held.holds.kept in
       let sound : IsPlainShelf s = all_in IsPlainShelf shelves s read.plain here in
       let below : All (λ q. IsBefore q.id r.id) s.recs =
-          all_from_in (λ q. IsBefore q.id r.id) s.recs
-          (λ q i. ids_before s.collection q r (subst (λ x. IsBefore (rec_row s.collection q).key (key_of x)) row_is (held_before (rec_row s.collection q) (rec_in s q here i)))) in
+      all_from_in (λ q. IsBefore q.id r.id) s.recs
+      (λ q i. ids_before s.collection q r (subst (λ x. IsBefore (rec_row s.collection q).key (key_of x)) row_is (held_before (rec_row s.collection q) (rec_in s q here i)))) in
       let more : IsPlainShelf (with_rec s r) = record {
         collection = sound.collection;
         recs = All-push IsPlainRec s.recs r sound.recs a.held.holds.plain;
@@ -280,10 +279,10 @@ module _ (rows : List KeptRow) (k : ℕ) (shelves : List Shelf) (row : KeptRow) 
         into = λ x h.
             subst (λ l. IsIn x (shelves_rows l)) (sym a.added)
             (rec_more_from shelves a.at s r x place
-                (elim ((in_more rows k row x within is).0 h) [
-                  | inl before ↦ inl (read.into x before)
-                  | inr q ↦ inr (q ∙ row_is)
-                ]));
+            (elim ((in_more rows k row x within is).0 h) [
+              | inl before ↦ inl (read.into x before)
+              | inr q ↦ inr (q ∙ row_is)
+            ]));
         from = λ x h.
             (in_more rows k row x within is).1
             (elim (rec_more_into shelves a.at s r x place (subst (λ l. IsIn x (shelves_rows l)) a.added h)) [
@@ -314,8 +313,8 @@ module _ (rows : List KeptRow) (k : ℕ) (shelves : List Shelf) (row : KeptRow) 
           | inr later ↦
               not_before_back (collection_row c).key (rec_row d r).key (collection_before_rec c d r)
               (subst (λ q. IsBefore (key_of q) (collection_row c).key) e
-                  (all_in (λ y. IsBefore row.key (key_of y)) (drop (suc k) rows) (collection_row c)
-                      (rises_first key_of row (drop (suc k) rows) (rises_back key_of (take k rows) (row ∷ drop (suc k) rows) split)) later))
+              (all_in (λ y. IsBefore row.key (key_of y)) (drop (suc k) rows) (collection_row c)
+              (rises_first key_of row (drop (suc k) rows) (rises_back key_of (take k rows) (row ∷ drop (suc k) rows) split)) later))
         ])
       ]
 
@@ -332,7 +331,6 @@ module _ (rows : List KeptRow) (k : ℕ) (shelves : List Shelf) (row : KeptRow) 
   bad_row lacks (inr (c, r, p, q, has, e)) =
       let held = shelf_of (collection_row c) shelves (read.into (collection_row c) (kept_before c c r e has)) in
       not_held lacks held.0 c r p q e held.1 held.2
-
 
   pub first_bad : (key : List ℕ) → key ≡ row.key → LacksRow shelves row → IsFirstBadRow rows key
   first_bad key e lacks = record {

@@ -9,10 +9,12 @@ use pocket_wire::status_phrase;
 use std::alloc::{AllocError, Global};
 
 /// The reply for want of memory, which takes none.
-pub const REPLY_507: &[u8] = b"HTTP/1.1 507 Insufficient Storage\r\nContent-Type: application/json\r\nContent-Length: 51\r\n\r\n{\"data\":{},\"message\":\"Out of memory.\",\"status\":507}";
+pub const REPLY_507: &[u8] =
+    b"HTTP/1.1 507 Insufficient Storage\r\nContent-Type: application/json\r\nContent-Length: 51\r\n\r\n{\"data\":{},\"message\":\"Out of memory.\",\"status\":507}";
 
 /// The same as a connection's last reply.
-pub const REPLY_507_CLOSE: &[u8] = b"HTTP/1.1 507 Insufficient Storage\r\nContent-Type: application/json\r\nContent-Length: 51\r\nConnection: close\r\n\r\n{\"data\":{},\"message\":\"Out of memory.\",\"status\":507}";
+pub const REPLY_507_CLOSE: &[u8] =
+    b"HTTP/1.1 507 Insufficient Storage\r\nContent-Type: application/json\r\nContent-Length: 51\r\nConnection: close\r\n\r\n{\"data\":{},\"message\":\"Out of memory.\",\"status\":507}";
 
 const NO_MEMORY: &str = "{\"data\":{},\"message\":\"Out of memory.\",\"status\":507}";
 

@@ -22,7 +22,11 @@ pub enum StartFault {
 }
 
 /// The record that a row holds, and the place of its shelf.
-fn find_rec_row(alloc: Global, shelves: &[Shelf], row: &KeptRow) -> Result<Option<(usize, Rec)>, AllocError>
+fn find_rec_row(
+    alloc: Global,
+    shelves: &[Shelf],
+    row: &KeptRow,
+) -> Result<Option<(usize, Rec)>, AllocError>
     requires { All IsPlainShelf shelves.now }
     ensures { IfOk result (λ found. MatchOption found (All (λ s. LacksRec s.collection row.now) shelves.now)
         (λ f. HoldsRecAt shelves.now f.0 f.1 row.now)) }

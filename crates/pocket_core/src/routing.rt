@@ -10,7 +10,11 @@ use std::alloc::{AllocError, Global};
 fn header_char(c: char) -> char
     ensures { result ≡ header_byte c }
 {
-    if c == '-' { '_' } else { c.to_ascii_lowercase() }
+    if c == '-' {
+        '_'
+    } else {
+        c.to_ascii_lowercase()
+    }
 }
 
 /// A header's name as rules write it: in lower case, with `-` as `_`.

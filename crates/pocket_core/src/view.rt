@@ -74,7 +74,13 @@ fn find_rec<'a>(shelf: &'a Shelf, id: &str) -> Option<&'a Rec>
 }
 
 /// The record as the caller sees it.
-fn show(alloc: Global, caller: &Caller, collection: &Collection, rec: &Rec, at: u64) -> Result<Reply, AllocError>
+fn show(
+    alloc: Global,
+    caller: &Caller,
+    collection: &Collection,
+    rec: &Rec,
+    at: u64,
+) -> Result<Reply, AllocError>
     requires collection { IsPlainCollection collection.now }
     requires rec { IsPlainRec rec.now }
     ensures { IfOk result (IsAnswer (rec_answer caller.now collection.now (Some rec.now) at)) }
@@ -90,7 +96,13 @@ fn show(alloc: Global, caller: &Caller, collection: &Collection, rec: &Rec, at: 
 }
 
 /// A view: the collection first, then its locked rule, then the record.
-fn answer_view(alloc: Global, caller: &Caller, world: &World, target: &Target, at: u64) -> Result<Reply, AllocError>
+fn answer_view(
+    alloc: Global,
+    caller: &Caller,
+    world: &World,
+    target: &Target,
+    at: u64,
+) -> Result<Reply, AllocError>
     requires { IsPlainWorld world.now }
     ensures { IfOk result (IsAnswer (view_answer caller.now (shelf_named target.now.collection world.now.shelves) target.now.id at)) }
 {
@@ -108,7 +120,13 @@ fn answer_view(alloc: Global, caller: &Caller, world: &World, target: &Target, a
 }
 
 /// The answer to a call in this world.
-pub(crate) fn answer_call(alloc: Global, caller: &Caller, world: &World, call: &Call, at: u64) -> Result<Reply, AllocError>
+pub(crate) fn answer_call(
+    alloc: Global,
+    caller: &Caller,
+    world: &World,
+    call: &Call,
+    at: u64,
+) -> Result<Reply, AllocError>
     requires { IsPlainWorld world.now }
     ensures { IfOk result (IsAnswer (call_answer world.now caller.now call.now at)) }
 {

@@ -6,8 +6,8 @@ use pocket_keeper::MemoryKeeper;
 use pocket_wire::{HostClock, HostDice, HostSink, HostSource};
 use std::alloc::{AllocError, Global};
 use std::process::ExitCode;
-use std::rt::{Clock, Env};
 use std::random::RandomSource;
+use std::rt::{Clock, Env};
 use std::{env, io};
 
 const USAGE: &str = "usage: pocket pipe|serve|load|check";

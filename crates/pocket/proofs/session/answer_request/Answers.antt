@@ -7,7 +7,7 @@ pub returns-in_default-clause-draws : goal.returns-in_default-clause-draws
 returns-in_default-clause-draws g c =
     rw c.requires.none
     (drawn_more _ _ _ _ c.draw_next-draw.result c.close_without_memory.result c.close_without_memory.ensures.sent.0 c.draw_next-draw.ensures.moment
-        c.draw_next-draw.ensures.words)
+    c.draw_next-draw.ensures.words)
 
 pub returns-clause-served : goal.returns-clause-served
 returns-clause-served g c =

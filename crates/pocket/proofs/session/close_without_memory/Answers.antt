@@ -8,5 +8,5 @@ pub returns-clause-sent : goal.returns-clause-sent
 returns-clause-sent g c = (
   refl,
   closing_from_sent _ _ _ _ c.send-ended.result
-  (subst (λ bytes. IsSent (g.O.Sink.taken c.args.sink.now) (g.O.Sink.taken c.send-ended.new.sink) (g.O.Sink.faults c.args.sink.now) (g.O.Sink.faults c.send-ended.new.sink) bytes Memory c.send-ended.result) c.no_memory_reply.ensures c.send-ended.ensures.sent),
+      (subst (λ bytes. IsSent (g.O.Sink.taken c.args.sink.now) (g.O.Sink.taken c.send-ended.new.sink) (g.O.Sink.faults c.args.sink.now) (g.O.Sink.faults c.send-ended.new.sink) bytes Memory c.send-ended.result) c.no_memory_reply.ensures c.send-ended.ensures.sent),
 )

@@ -7,7 +7,7 @@ returns-in-Ok-Request-clause-session g c =
     let next = rw c.in-Ok-Request.field-0-is at c.in-Ok-Request.ensures.next in
     let n = rw c.new-inbox.ensures at next in
     let e = ends_request c.args.state.now.opening c.answer_request.new.turns n.0 _ _ _ _ c.in-Ok-Request.request c.answer_request.result n.2.0
-        c.answer_request.ensures.served in
+    c.answer_request.ensures.served in
     (n.0, e.0, n.1, e.1, e.2)
 
 pub returns-in-Ok-End-clause-session : goal.returns-in-Ok-End-clause-session
@@ -22,12 +22,12 @@ returns-in-Ok-Refused-clause-session g c =
     let next = rw c.in-Ok-Refused.field-0-is at c.in-Ok-Refused.ensures.next in
     let n = rw c.new-inbox.ensures at next in
     let e = ends_refused c.args.state.now.opening c.args.turns.now n.0 _ _ _ _ c.in-Ok-Refused.status c.refuse.result c.requires.none n.2.0
-        c.refuse.ensures.sent in
+    c.refuse.ensures.sent in
     (n.0, e.0, n.1, e.1, e.2)
 
 pub returns-clause-session : goal.returns-clause-session
 returns-clause-session g c =
     let n = c.in-Err-Memory.ensures.next in
     let e = closes c.args.state.now.opening c.args.turns.now n.0 _ _ _ _ c.close_without_memory.result (inl (ap length c.requires.none))
-        c.close_without_memory.ensures.sent in
+    c.close_without_memory.ensures.sent in
     (n.0, e.0, n.1, e.1, e.2)

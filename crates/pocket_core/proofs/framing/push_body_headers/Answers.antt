@@ -8,4 +8,4 @@ returns c =
     let headers = body_headers_are c.args.status c.args.size c.if-status-eq204.false in
     rw headers
     (three_pieces _ (codes "Content-Type: application/json\r\nContent-Length: ") (decimal c.args.size) line_end _ _ _ c.in_ok-push_str.ensures.bytes
-        c.in_ok-write.ensures.bytes c.in_ok-push_str-2.ensures.bytes)
+    c.in_ok-write.ensures.bytes c.in_ok-push_str-2.ensures.bytes)

@@ -6,8 +6,8 @@ returns-in-Ok-false c =
     let lacks = rw c.in-Ok-false.field-0-test at c.in-Ok-false.ensures in
     named_fault c.args.rows.now c.row-item.result c.bad_store.result c.bad_store.ensures
     (λ key named.
-        first_bad c.args.rows.now c.loop-row.row-index c.loop-row.shelves.items c.row-item.result c.requires c.loop-row-test.true c.row-item.is
-        c.loop-row.invariant key named lacks)
+    first_bad c.args.rows.now c.loop-row.row-index c.loop-row.shelves.items c.row-item.result c.requires c.loop-row-test.true c.row-item.is
+    c.loop-row.invariant key named lacks)
 
 pub loop-row-preserved : goal.loop-row-preserved
 loop-row-preserved c =
