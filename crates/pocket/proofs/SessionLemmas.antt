@@ -28,7 +28,7 @@ use Rattle.pocket_core.specs.declared.work.Work.{Work}
 use Rattle.pocket.specs.Drawing.{AddsAnswers, IsDrawn, draws_of, moments_of, words_of}
 use Rattle.pocket.specs.Sending.{IsClosing, IsSent, sent_text}
 use Rattle.pocket.specs.Serving.{IsAnswered, IsUnanswered}
-use Rattle.pocket.specs.Sessions.{IsExchange, IsReplyText, answer_text}
+use Rattle.pocket.specs.Sessions.{IsExchange, IsReplyText, IsTurnAt, answer_text}
 use Rattle.pocket.specs.declared.status.Turn.{Turn}
 
 -- ---- no call that is built so far enters its work
@@ -137,10 +137,14 @@ module _ (opening : MachineState) (journal : List Work) (request : Request) (old
             (subst (λ h. IsAnswer (answer opening h work) reply ⊎ IsNoMemory (length h) reply) fresh is);
         sent = sent;
       })
-  served reply taken taken_now before now ended is (inr closed) = inr (record { at_most_one = inr (ap length turns_are); closed = closed })
+  served reply taken taken_now before now ended is (inr closed) = inr (record { at_most_one = rw turns_are (place ∙ ap length fresh); closed = closed })
 
   pub drawn : (moments moments_now : Option (List Moment)) (words words_now : Option (List ℕ)) (ended : Ended)
       → AddsAnswers moments moments_now (draw.moment ∷ []) → AddsAnswers words words_now draw.words → IsDrawn moments moments_now words words_now new ended
   drawn moments moments_now words words_now ended m w =
       subst (λ turns. IsDrawn moments moments_now words words_now turns ended) (sym turns_are)
       (drawn_turn moments moments_now words words_now turn draw ended is_work.drawn m w)
+
+-- where there is no turn, there is none at another place
+pub no_turn_at : (place : ℕ) (turns : List Turn) → turns ≡ [] → IsTurnAt place turns
+no_turn_at place turns none = rw none tt
