@@ -3,14 +3,14 @@ use Rattle.std.proofs.Common.{◌≡◌, ◌⊎◌, inl, inr, ℕ, List, [], ◌
 use Rattle.std.specs.Io.KnownBytes.{Appends}
 use Rattle.std.proofs.lemmas.List.{append-nil}
 use Rattle.pocket_wire.specs.Phrases.{refused_bytes}
-use Rattle.pocket_wire.specs.Requests.{RequestsOf}
+use Rattle.pocket_wire.specs.Requests.{IsWholeInput, RequestsOf}
 use Rattle.pocket_wire.specs.declared.request.Ended.{Ended}
-use Rattle.pocket_wire.specs.declared.request.Ended.TheVariants.{Done, Refused, SourceFault, SinkFault, Memory}
+use Rattle.pocket_wire.specs.declared.request.Ended.TheVariants.{Done, Closed, Refused, Truncated, Limit, SourceFault, SinkFault, Memory}
 use Rattle.pocket_wire.specs.declared.request.Request.{Request}
 use Rattle.pocket_core.specs.Replies.{no_memory_text}
 use Rattle.pocket_core.specs.States.{MachineState}
 use Rattle.pocket.specs.Sending.{IsClosing, IsSent}
-use Rattle.pocket.specs.Serving.{IsAnswered, IsUnanswered, Takes}
+use Rattle.pocket.specs.Serving.{IsAnswered, IsUnanswered, ReadsAll, Takes}
 use Rattle.pocket.specs.Sessions.{Exchanges, IsCutShort, IsSession, IsWhole}
 use Rattle.pocket.specs.declared.status.Turn.{Turn}
 
@@ -107,3 +107,18 @@ ends_quiet opening turns bytes told count none empty = (
 pub ends_unread : (opening : MachineState) (turns : List Turn) (bytes : List ℕ) (told : Option (List ℕ)) (count : ℕ) → turns ≡ []
     → Ends opening turns bytes told told count count SourceFault
 ends_unread opening turns bytes told count none = ([], subst (λ t. Exchanges opening [] 0 [] t []) (sym none) (refl, refl), appends_none told)
+
+-- an input that was read whole is so however the session ends
+pub reads_all : (bytes : List ℕ) (left : Option (List ℕ)) (ended : Ended) → IsWholeInput bytes left → ReadsAll bytes left ended
+reads_all bytes left Done h = h
+reads_all bytes left Closed h = h
+reads_all bytes left (Refused status) h = h
+reads_all bytes left Truncated h = h
+reads_all bytes left Limit h = h
+reads_all bytes left SourceFault h = tt
+reads_all bytes left SinkFault h = h
+reads_all bytes left Memory h = tt
+
+-- where memory was wanting nothing is said of what is left
+pub reads_some : (bytes : List ℕ) (left : Option (List ℕ)) (ended : Ended) → ended ≡ Memory → ReadsAll bytes left ended
+reads_some bytes left ended e = rw e tt

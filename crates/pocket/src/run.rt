@@ -7,7 +7,7 @@ ghost use Rattle.pocket_core.specs.Opening.{IfTold, IsWorldOf};
 ghost use Rattle.pocket_core.specs.States.{MachineState, after};
 ghost use Rattle.pocket.specs.Drawing.{IsDrawn};
 ghost use Rattle.pocket.specs.Runs.{IsOpeningOf, IsPipeEnd, OnSession, OnUnopened, end_of};
-ghost use Rattle.pocket.specs.Serving.{Takes};
+ghost use Rattle.pocket.specs.Serving.{ReadsAll, Takes};
 ghost use Rattle.pocket.specs.Sessions.{IsSession};
 ghost use Rattle.pocket.specs.Words.{IsPipe};
 
@@ -62,6 +62,7 @@ fn run_opened<S: Source, O: Sink, K: Committer, C: Clock, D: Dice, L: Ledger>(
     requires fresh { state.journal ≡ [] }
     ensures session { OnSession result.ended (λ ended. (bytes : List ℕ) × (out : List ℕ)
         × Consumes (S.left source.old) (S.left source.new) bytes
+        × ReadsAll bytes (S.left source.new) ended
         × IsSession state.opening result.journal result.turns bytes out ended
         × Takes (O.taken sink.old) (O.taken sink.new) (O.faults sink.old) (O.faults sink.new) out ended) }
     ensures draws { OnSession result.ended
@@ -102,11 +103,12 @@ pub fn run_plain<S: Source, O: Sink, K: Keeper, C: Clock, D: Dice>(
     ensures ended { IsPipeEnd (map string_bytes words.now) (K.rows keeper.old) (K.faults keeper.old) (K.faults keeper.new) result.ended }
 
     // From the state that the told rows stand for, the turns, the accepted commands and what the sink took are a session
-    // over the bytes that the source gave.
+    // over the bytes that the source gave, which are all unless it failed, memory was wanting or they are too many.
     ensures session { OnSession result.ended (λ ended. (opening : MachineState)
         × IsOpeningOf (map string_bytes words.now) (K.rows keeper.old) opening
         × (bytes : List ℕ) × (out : List ℕ)
         × Consumes (S.left source.old) (S.left source.new) bytes
+        × ReadsAll bytes (S.left source.new) ended
         × IsSession opening result.journal result.turns bytes out ended
         × Takes (O.taken sink.old) (O.taken sink.new) (O.faults sink.old) (O.faults sink.new) out ended
         × IfTold (K.rows keeper.new) (λ told. IsWorldOf told (after opening result.journal).world)) }

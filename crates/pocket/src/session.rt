@@ -4,7 +4,7 @@ ghost use Rattle.pocket_wire.specs.Phrases.{IsReplyStatus, refused_bytes};
 ghost use Rattle.pocket_wire.specs.declared.request.Ended.TheVariants.{Done, Refused, SourceFault};
 ghost use Rattle.pocket.specs.Sending.{IsClosing, IsSent, TakesSome, sent_text};
 ghost use Rattle.pocket.specs.Drawing.{AddsAnswers, IsDrawn};
-ghost use Rattle.pocket.specs.Serving.{IsAnswered, IsUnanswered, Takes};
+ghost use Rattle.pocket.specs.Serving.{IsAnswered, IsUnanswered, ReadsAll, Takes};
 ghost use Rattle.pocket.specs.Sessions.{IsSession};
 ghost use Rattle.pocket_types.specs.Causes.{Rose};
 
@@ -140,6 +140,7 @@ pub(crate) fn run_session<S: Source, O: Sink, K: Committer, C: Clock, D: Dice, L
     requires fresh { state.old.journal ≡ [] }
     requires none { turns.old ≡ [] }
     ensures session { (bytes : List ℕ) × (out : List ℕ) × Consumes (S.left source.old) (S.left source.new) bytes
+        × ReadsAll bytes (S.left source.new) result
         × IsSession state.old.opening [] turns.new bytes out result
         × Takes (O.taken sink.old) (O.taken sink.new) (O.faults sink.old) (O.faults sink.new) out result }
     ensures draws { IsDrawn (C.answers clock.old) (C.answers clock.new) (D.answers dice.old) (D.answers dice.new) turns.new result }
