@@ -11,7 +11,7 @@ use Rattle.pocket_core.specs.Replies.{no_memory_text}
 use Rattle.pocket_core.specs.States.{MachineState}
 use Rattle.pocket.specs.Sending.{IsClosing, IsSent}
 use Rattle.pocket.specs.Serving.{IsAnswered, IsUnanswered, ReadsAll, Takes}
-use Rattle.pocket.specs.Sessions.{Exchanges, IsCutShort, IsSession, IsWhole}
+use Rattle.pocket.specs.Sessions.{Exchanges, IsCutShort, IsLastTurn, IsSession, IsTurnOf, IsWhole}
 use Rattle.pocket.specs.declared.status.Turn.{Turn}
 
 -- the session of these bytes ended so, and the sink took what it sent
@@ -19,10 +19,19 @@ abbrev pub Ends : MachineState → List Turn → List ℕ → Option (List ℕ) 
 Ends opening turns bytes old new before now ended =
     (out : List ℕ) × IsSession opening [] turns bytes out ended × Takes old new before now out ended
 
+-- without turns there is no last one
+pub no_last : (bytes : List ℕ) (turns : List Turn) → turns ≡ [] → IsLastTurn bytes [] 0 turns
+no_last bytes turns none = rw none tt
+
+-- the turn of the one request is the last
+last_of : (bytes : List ℕ) (request : Request) (turns : List Turn) → RequestsOf bytes (request ∷ []) Done → IsTurnOf request 0 turns → IsLastTurn bytes [] 0 turns
+last_of bytes request [] stand turn = tt
+last_of bytes request (first ∷ rest) stand turn = (request, inr ([], Done, stand), turn)
+
 module _ (opening : MachineState) (turns : List Turn) (bytes : List ℕ) (old new : Option (List ℕ)) (before now : ℕ) where
   -- memory was wanting
-  cut_short : (length turns ≡ 0) ⊎ (length turns ≡ 1) → IsCutShort opening [] turns bytes (no_memory_text true)
-  cut_short few = record {
+  cut_short : IsLastTurn bytes [] 0 turns → IsCutShort opening [] turns bytes (no_memory_text true)
+  cut_short last = record {
     requests = [];
     stand = inl refl;
     before = [];
@@ -30,13 +39,13 @@ module _ (opening : MachineState) (turns : List Turn) (bytes : List ℕ) (old ne
     exchanges = (refl, refl);
     last = turns;
     turns_are = refl;
-    at_most_one = few;
+    last_turn = last;
     sent = refl;
   }
 
-  pub closes : (ended : Ended) → (length turns ≡ 0) ⊎ (length turns ≡ 1) → IsClosing old new before now ended → Ends opening turns bytes old new before now ended
-  closes ended few (e, some) =
-      subst (λ end. Ends opening turns bytes old new before now end) (sym e) (no_memory_text true, cut_short few, some)
+  pub closes : (ended : Ended) → IsLastTurn bytes [] 0 turns → IsClosing old new before now ended → Ends opening turns bytes old new before now ended
+  closes ended last (e, some) =
+      subst (λ end. Ends opening turns bytes old new before now end) (sym e) (no_memory_text true, cut_short last, some)
 
   -- the one request was answered
   whole : (request : Request) (ended : Ended) → RequestsOf bytes (request ∷ []) Done → (a : IsAnswered opening request turns old new before now ended)
@@ -59,9 +68,9 @@ module _ (opening : MachineState) (turns : List Turn) (bytes : List ℕ) (old ne
       subst (λ end. Ends opening turns bytes old new before now end) (sym e) (a.text, (Done, whole request ended stand a), (front, rose))
 
   pub ends_request : (request : Request) (ended : Ended) → RequestsOf bytes (request ∷ []) Done
-      → IsAnswered opening request turns old new before now ended ⊎ IsUnanswered turns old new before now ended → Ends opening turns bytes old new before now ended
+      → IsAnswered opening request turns old new before now ended ⊎ IsUnanswered request turns old new before now ended → Ends opening turns bytes old new before now ended
   ends_request request ended stand (inl a) = answered request ended stand a a.sent
-  ends_request request ended stand (inr u) = closes ended u.at_most_one u.closed
+  ends_request request ended stand (inr u) = closes ended (last_of bytes request turns stand u.turn) u.closed
 
   -- bytes that aren't a request
   refusal : (status : ℕ) → turns ≡ [] → RequestsOf bytes [] (Refused status) → IsWhole opening [] turns bytes (refused_bytes status) (Refused status)
@@ -83,7 +92,7 @@ module _ (opening : MachineState) (turns : List Turn) (bytes : List ℕ) (old ne
   pub ends_refused : (status : ℕ) (ended : Ended) → turns ≡ [] → RequestsOf bytes [] (Refused status)
       → IsSent old new before now (refused_bytes status) (Refused status) ended ⊎ IsClosing old new before now ended → Ends opening turns bytes old new before now ended
   ends_refused status ended none stand (inl sent) = refused status ended none stand sent
-  ends_refused status ended none stand (inr closed) = closes ended (inl (ap length none)) closed
+  ends_refused status ended none stand (inr closed) = closes ended (no_last bytes turns none) closed
 
 -- what isn't told or isn't touched grows by nothing
 pub appends_none : (told : Option (List ℕ)) → Appends told told []

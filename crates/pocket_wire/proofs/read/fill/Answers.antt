@@ -17,8 +17,11 @@ returns-then-is_err-clause-bounded g c =
     let before = c.fill.invariant.got in
     let bound = c.in-Ok.ensures.bound in
     let len : length c.fill.bytes.items ≤ 16384 = grind (arith, common_steps, c.len.ensures, c.fill-test.true) in
-    let room : c.in-Ok.count ≤ 512 = grind (arith, common_steps, bound.0) in
-    (_, consumes_through _ _ _ before.0 _ before.1 c.in-Ok.ensures.bytes.0, record {
-      few = still_few c.fill.bytes.items c.args.bytes.now.items before.0 _ c.in-Ok.count before.2 len bound.1 room;
-      source = λ e. absurd (cc e);
-    })
+    let room : c.in-Ok.count ≤ 512 = grind (arith, common_steps, bound.0) in (
+      _,
+      consumes_through _ _ _ before.0 _ before.1 c.in-Ok.ensures.bytes.0,
+      record {
+        few = still_few c.fill.bytes.items c.args.bytes.now.items before.0 _ c.in-Ok.count before.2 len bound.1 room;
+        source = λ e. absurd (cc e);
+      },
+    )
