@@ -1,5 +1,5 @@
 -- How a session ends.
-use Rattle.std.proofs.Common.{◌≡◌, ◌≢◌, ◌⊎◌, inl, inr, ℕ, List, [], ◌∷◌, ◌++◌, Option, Some, None, true, false, refl, sym, ◌∙◌, subst}
+use Rattle.std.proofs.Common.{◌≡◌, ◌⊎◌, inl, inr, ℕ, List, [], ◌∷◌, ◌++◌, Option, Some, None, true, false, length, refl, sym, ◌∙◌, ap, subst}
 use Rattle.std.specs.Io.KnownBytes.{Appends}
 use Rattle.std.proofs.lemmas.List.{append-nil}
 use Rattle.pocket_wire.specs.Phrases.{refused_bytes}
@@ -11,23 +11,27 @@ use Rattle.pocket_core.specs.Replies.{no_memory_text}
 use Rattle.pocket_core.specs.States.{MachineState}
 use Rattle.pocket.specs.Sending.{IsClosing, IsSent}
 use Rattle.pocket.specs.Serving.{IsAnswered, IsUnanswered, ReadsAll, Takes}
-use Rattle.pocket.specs.Sessions.{Exchanges, IsCutShort, IsSession, IsTurnAt, IsWhole, StandFirst}
+use Rattle.pocket.specs.Sessions.{Exchanges, IsCutShort, IsLastTurn, IsSession, IsTurnOf, IsWhole}
 use Rattle.pocket.specs.declared.status.Turn.{Turn}
-use Rattle.pocket.proofs.SessionLemmas.{no_turn_at}
 
 -- the session of these bytes ended so, and the sink took what it sent
 abbrev pub Ends : MachineState → List Turn → List ℕ → Option (List ℕ) → Option (List ℕ) → ℕ → ℕ → Ended → Type 0
 Ends opening turns bytes old new before now ended =
     (out : List ℕ) × IsSession opening [] turns bytes out ended × Takes old new before now out ended
 
-module _ (opening : MachineState) (turns : List Turn) (bytes : List ℕ) (old new : Option (List ℕ)) (before now : ℕ) where
-  -- a turn is that of a request that stands first
-  abbrev pub IsAsked : Type 0
-  IsAsked = turns ≢ [] → (request : Request) × StandFirst bytes (request ∷ [])
+-- without turns there is no last one
+pub no_last : (bytes : List ℕ) (turns : List Turn) → turns ≡ [] → IsLastTurn bytes [] 0 turns
+no_last bytes turns none = rw none tt
 
+-- the turn of the one request is the last
+last_of : (bytes : List ℕ) (request : Request) (turns : List Turn) → RequestsOf bytes (request ∷ []) Done → IsTurnOf request 0 turns → IsLastTurn bytes [] 0 turns
+last_of bytes request [] stand turn = tt
+last_of bytes request (first ∷ rest) stand turn = (request, inr ([], Done, stand), turn)
+
+module _ (opening : MachineState) (turns : List Turn) (bytes : List ℕ) (old new : Option (List ℕ)) (before now : ℕ) where
   -- memory was wanting
-  cut_short : IsTurnAt 0 turns → IsAsked → IsCutShort opening [] turns bytes (no_memory_text true)
-  cut_short few asked = record {
+  cut_short : IsLastTurn bytes [] 0 turns → IsCutShort opening [] turns bytes (no_memory_text true)
+  cut_short last = record {
     requests = [];
     stand = inl refl;
     before = [];
@@ -35,18 +39,13 @@ module _ (opening : MachineState) (turns : List Turn) (bytes : List ℕ) (old ne
     exchanges = (refl, refl);
     last = turns;
     turns_are = refl;
-    at_most_one = few;
-    asked = asked;
+    last_turn = last;
     sent = refl;
   }
 
-  closes : (ended : Ended) → IsTurnAt 0 turns → IsAsked → IsClosing old new before now ended → Ends opening turns bytes old new before now ended
-  closes ended few asked (e, some) =
-      subst (λ end. Ends opening turns bytes old new before now end) (sym e) (no_memory_text true, cut_short few asked, some)
-
-  -- memory was wanting before there was a request
-  pub closes_unasked : (ended : Ended) → turns ≡ [] → IsClosing old new before now ended → Ends opening turns bytes old new before now ended
-  closes_unasked ended none closed = closes ended (no_turn_at 0 turns none) (λ some. absurd (some none)) closed
+  pub closes : (ended : Ended) → IsLastTurn bytes [] 0 turns → IsClosing old new before now ended → Ends opening turns bytes old new before now ended
+  closes ended last (e, some) =
+      subst (λ end. Ends opening turns bytes old new before now end) (sym e) (no_memory_text true, cut_short last, some)
 
   -- the one request was answered
   whole : (request : Request) (ended : Ended) → RequestsOf bytes (request ∷ []) Done → (a : IsAnswered opening request turns old new before now ended)
@@ -69,9 +68,9 @@ module _ (opening : MachineState) (turns : List Turn) (bytes : List ℕ) (old ne
       subst (λ end. Ends opening turns bytes old new before now end) (sym e) (a.text, (Done, whole request ended stand a), (front, rose))
 
   pub ends_request : (request : Request) (ended : Ended) → RequestsOf bytes (request ∷ []) Done
-      → IsAnswered opening request turns old new before now ended ⊎ IsUnanswered turns old new before now ended → Ends opening turns bytes old new before now ended
+      → IsAnswered opening request turns old new before now ended ⊎ IsUnanswered request turns old new before now ended → Ends opening turns bytes old new before now ended
   ends_request request ended stand (inl a) = answered request ended stand a a.sent
-  ends_request request ended stand (inr u) = closes ended u.at_most_one (λ _. (request, inr ([], Done, stand))) u.closed
+  ends_request request ended stand (inr u) = closes ended (last_of bytes request turns stand u.turn) u.closed
 
   -- bytes that aren't a request
   refusal : (status : ℕ) → turns ≡ [] → RequestsOf bytes [] (Refused status) → IsWhole opening [] turns bytes (refused_bytes status) (Refused status)
@@ -93,7 +92,7 @@ module _ (opening : MachineState) (turns : List Turn) (bytes : List ℕ) (old ne
   pub ends_refused : (status : ℕ) (ended : Ended) → turns ≡ [] → RequestsOf bytes [] (Refused status)
       → IsSent old new before now (refused_bytes status) (Refused status) ended ⊎ IsClosing old new before now ended → Ends opening turns bytes old new before now ended
   ends_refused status ended none stand (inl sent) = refused status ended none stand sent
-  ends_refused status ended none stand (inr closed) = closes_unasked ended none closed
+  ends_refused status ended none stand (inr closed) = closes ended (no_last bytes turns none) closed
 
 -- what isn't told or isn't touched grows by nothing
 pub appends_none : (told : Option (List ℕ)) → Appends told told []

@@ -28,7 +28,7 @@ use Rattle.pocket_core.specs.declared.work.Work.{Work}
 use Rattle.pocket.specs.Drawing.{AddsAnswers, IsDrawn, draws_of, moments_of, words_of}
 use Rattle.pocket.specs.Sending.{IsClosing, IsSent, sent_text}
 use Rattle.pocket.specs.Serving.{IsAnswered, IsUnanswered}
-use Rattle.pocket.specs.Sessions.{IsExchange, IsReplyText, IsTurnAt, answer_text}
+use Rattle.pocket.specs.Sessions.{IsExchange, IsReplyText, IsTurnOf, answer_text}
 use Rattle.pocket.specs.declared.status.Turn.{Turn}
 
 -- ---- no call that is built so far enters its work
@@ -123,28 +123,33 @@ module _ (opening : MachineState) (journal : List Work) (request : Request) (old
   turns_are : new ≡ turn ∷ []
   turns_are = noted ∙ ap (λ turns. turns ++ turn ∷ []) none
 
+  at_start : at ≡ 0
+  at_start = place ∙ ap length fresh
+
+  its_work : IsWorkOf request turn.draw work
+  its_work = subst (λ d. IsWorkOf request d work) (sym is_work.drawn) is_work
+
+  its_turn : IsTurnOf request 0 (turn ∷ [])
+  its_turn = (at_start, (work, its_work))
+
   pub served : (reply : Reply) (taken taken_now : Option (List ℕ)) (before now : ℕ) (ended : Ended)
       → IsAnswer (answer opening journal work) reply ⊎ IsNoMemory (length journal) reply
       → IsSent taken taken_now before now (sent_text reply.status reply.body) Done ended ⊎ IsClosing taken taken_now before now ended
-      → IsAnswered opening request new taken taken_now before now ended ⊎ IsUnanswered new taken taken_now before now ended
+      → IsAnswered opening request new taken taken_now before now ended ⊎ IsUnanswered request new taken taken_now before now ended
   served reply taken taken_now before now ended is (inl sent) =
       inl (record {
         turn = turn;
         text = sent_text reply.status reply.body;
         turns_are = turns_are;
         exchange =
-            exchange opening request turn work reply (place ∙ ap length fresh) (subst (λ d. IsWorkOf request d work) (sym is_work.drawn) is_work)
+            exchange opening request turn work reply at_start its_work
             (subst (λ h. IsAnswer (answer opening h work) reply ⊎ IsNoMemory (length h) reply) fresh is);
         sent = sent;
       })
-  served reply taken taken_now before now ended is (inr closed) = inr (record { at_most_one = rw turns_are (place ∙ ap length fresh); closed = closed })
+  served reply taken taken_now before now ended is (inr closed) = inr (record { turn = subst (λ t. IsTurnOf request 0 t) (sym turns_are) its_turn; closed = closed })
 
   pub drawn : (moments moments_now : Option (List Moment)) (words words_now : Option (List ℕ)) (ended : Ended)
       → AddsAnswers moments moments_now (draw.moment ∷ []) → AddsAnswers words words_now draw.words → IsDrawn moments moments_now words words_now new ended
   drawn moments moments_now words words_now ended m w =
       subst (λ turns. IsDrawn moments moments_now words words_now turns ended) (sym turns_are)
       (drawn_turn moments moments_now words words_now turn draw ended is_work.drawn m w)
-
--- where there is no turn, there is none at another place
-pub no_turn_at : (place : ℕ) (turns : List Turn) → turns ≡ [] → IsTurnAt place turns
-no_turn_at place turns none = rw none tt

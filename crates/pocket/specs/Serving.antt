@@ -1,5 +1,5 @@
 -- What serving a session's request, and the whole session, comes to.
-use Rattle.std.specs.Prelude.{◌≡◌, ◌⊎◌, ℕ, List, [], ◌∷◌, Option, ⊤}
+use Rattle.std.specs.Prelude.{◌≡◌, ◌⊎◌, ℕ, List, [], ◌∷◌, length, Option, ⊤}
 use Rattle.std.specs.Io.KnownBytes.{Appends}
 use Rattle.pocket_types.specs.Causes.{Rose}
 use Rattle.pocket_wire.specs.Outside.{AppendsFront}
@@ -9,7 +9,7 @@ use Rattle.pocket_wire.specs.declared.request.Ended.TheVariants.{Done, Closed, R
 use Rattle.pocket_wire.specs.declared.request.Request.{Request}
 use Rattle.pocket_core.specs.States.{MachineState}
 use Rattle.pocket.specs.Sending.{IsClosing, IsSent, TakesSome}
-use Rattle.pocket.specs.Sessions.{IsExchange, IsTurnAt}
+use Rattle.pocket.specs.Sessions.{IsExchange, IsTurnOf}
 use Rattle.pocket.specs.declared.status.Turn.{Turn}
 
 -- the request has its turn and its reply, which was sent as far as the sink took it
@@ -21,8 +21,8 @@ pub record IsAnswered (opening : MachineState) (request : Request) (turns : List
   pub sent : IsSent old new before now text Done ended
 
 -- memory was wanting for the work, the turn or the reply
-pub record IsUnanswered (turns : List Turn) (old new : Option (List ℕ)) (before now : ℕ) (ended : Ended) : Type 0 where
-  pub at_most_one : IsTurnAt 0 turns
+pub record IsUnanswered (request : Request) (turns : List Turn) (old new : Option (List ℕ)) (before now : ℕ) (ended : Ended) : Type 0 where
+  pub turn : IsTurnOf request 0 turns
   pub closed : IsClosing old new before now ended
 
 -- the sink took what was sent: all, or where it failed and the session ended for that or for memory, a front

@@ -1,5 +1,5 @@
 -- A session: requests, their turns and replies, and how it ended.
-use Rattle.std.specs.Prelude.{◌≡◌, ◌≢◌, ◌⊎◌, ℕ, ◌+◌, List, [], ◌∷◌, ◌++◌, Bool, true, false, take, length, slice_get, Some, IsTrue, ⊤}
+use Rattle.std.specs.Prelude.{◌≡◌, ◌⊎◌, ℕ, ◌+◌, List, [], ◌∷◌, ◌++◌, Bool, true, false, take, length, slice_get, Some, IsTrue, ⊤}
 use Rattle.std.specs.List.{flat_map}
 use Rattle.pocket_wire.specs.Phrases.{refused_bytes}
 use Rattle.pocket_wire.specs.Requests.{RequestsOf}
@@ -60,13 +60,19 @@ pub record IsWhole (opening : MachineState) (history : List Work) (turns : List 
 abbrev pub StandFirst : List ℕ → List Request → Type 0
 StandFirst bytes requests = (requests ≡ []) ⊎ ((more : List Request) × (rest : Ended) × RequestsOf bytes (requests ++ more) rest)
 
--- no turn, or one at this place
-abbrev pub IsTurnAt : ℕ → List Turn → Type 0
-IsTurnAt place [] = ⊤
-IsTurnAt place (turn ∷ []) = turn.at ≡ place
-IsTurnAt place (turn ∷ other ∷ turns) = ⊥
+-- at most one turn, which is this request's at this place
+abbrev pub IsTurnOf : Request → ℕ → List Turn → Type 0
+IsTurnOf request place [] = ⊤
+IsTurnOf request place (turn ∷ []) = (turn.at ≡ place) × ((work : Work) × IsWorkOf request turn.draw work)
+IsTurnOf request place (turn ∷ other ∷ turns) = ⊥
 
--- some requests are answered, and then memory is wanting, perhaps after the next one's turn: the last reply says so and closes
+-- no turn, or that of the request that stands in the bytes behind these
+abbrev pub IsLastTurn : List ℕ → List Request → ℕ → List Turn → Type 0
+IsLastTurn bytes requests place [] = ⊤
+IsLastTurn bytes requests place (turn ∷ turns) =
+    (request : Request) × StandFirst bytes (requests ++ request ∷ []) × IsTurnOf request place (turn ∷ turns)
+
+-- some requests are answered, and then memory is wanting: the last reply says so and closes
 pub record IsCutShort (opening : MachineState) (history : List Work) (turns : List Turn) (bytes out : List ℕ) : Type 0 where
   pub requests : List Request
   pub stand : StandFirst bytes requests
@@ -75,8 +81,7 @@ pub record IsCutShort (opening : MachineState) (history : List Work) (turns : Li
   pub exchanges : Exchanges opening history 0 requests before said
   pub last : List Turn
   pub turns_are : turns ≡ before ++ last
-  pub at_most_one : IsTurnAt (length history) last
-  pub asked : last ≢ [] → (request : Request) × StandFirst bytes (requests ++ request ∷ [])
+  pub last_turn : IsLastTurn bytes requests (length history) last
   pub sent : out ≡ said ++ no_memory_text true
 
 -- a session over these bytes: its turns, what it sent, and how it ended

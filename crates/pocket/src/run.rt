@@ -1,4 +1,4 @@
-ghost use Rattle.std.specs.Prelude.{◌≡◌, ◌⊎◌, ◌<◌, ◌≤◌, [], ℕ, List, map};
+ghost use Rattle.std.specs.Prelude.{◌≡◌, ◌⊎◌, ◌<◌, ◌≤◌, [], ℕ, List, length, map};
 ghost use Rattle.std.specs.Io.KnownBytes.{Consumes, IsAtEnd};
 ghost use Rattle.std.specs.String.{string_bytes};
 ghost use Rattle.pocket_types.specs.Causes.{Rose};
@@ -65,6 +65,8 @@ fn run_opened<S: Source, O: Sink, K: Committer, C: Clock, D: Dice, L: Ledger>(
         × ReadsAll bytes (S.left source.new) ended
         × IsSession state.opening result.journal result.turns bytes out ended
         × Takes (O.taken sink.old) (O.taken sink.new) (O.faults sink.old) (O.faults sink.new) out ended) }
+    ensures bounded { OnSession result.ended (λ _. (bytes : List ℕ) × Consumes (S.left source.old) (S.left source.new) bytes
+        × (length bytes ≤ 16_896)) }
     ensures draws { OnSession result.ended
         (IsDrawn (C.answers clock.old) (C.answers clock.new) (D.answers dice.old) (D.answers dice.new) result.turns) }
     ensures source_fault { OnSession result.ended (λ ended. ended ≡ SourceFault → Rose (S.faults source.old) (S.faults source.new)) }
@@ -112,6 +114,8 @@ pub fn run_plain<S: Source, O: Sink, K: Keeper, C: Clock, D: Dice>(
         × IsSession opening result.journal result.turns bytes out ended
         × Takes (O.taken sink.old) (O.taken sink.new) (O.faults sink.old) (O.faults sink.new) out ended
         × IfTold (K.rows keeper.new) (λ told. IsWorldOf told (after opening result.journal).world)) }
+    ensures bounded { OnSession result.ended (λ _. (bytes : List ℕ) × Consumes (S.left source.old) (S.left source.new) bytes
+        × (length bytes ≤ 16_896)) }
     ensures draws { OnSession result.ended
         (IsDrawn (C.answers clock.old) (C.answers clock.new) (D.answers dice.old) (D.answers dice.new) result.turns) }
     ensures source_fault { OnSession result.ended (λ ended. ended ≡ SourceFault → Rose (S.faults source.old) (S.faults source.new)) }

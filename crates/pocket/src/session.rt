@@ -1,4 +1,4 @@
-ghost use Rattle.std.specs.Prelude.{◌≡◌, ◌⊎◌, ◌≤◌, ◌++◌, ◌∷◌, [], ℕ, List, OnErr, OnOk};
+ghost use Rattle.std.specs.Prelude.{◌≡◌, ◌⊎◌, ◌≤◌, ◌++◌, ◌∷◌, [], ℕ, List, OnErr, OnOk, length};
 ghost use Rattle.std.specs.Io.KnownBytes.{Consumes, IsAtEnd};
 ghost use Rattle.pocket_wire.specs.Phrases.{IsReplyStatus, refused_bytes};
 ghost use Rattle.pocket_wire.specs.declared.request.Ended.TheVariants.{Done, Refused, SourceFault};
@@ -106,7 +106,7 @@ fn answer_request<O: Sink, K: Committer, C: Clock, D: Dice, L: Ledger>(
     requires fresh { state.old.journal ≡ [] }
     requires none { turns.old ≡ [] }
     ensures served { IsAnswered state.old.opening request.now turns.new (O.taken sink.old) (O.taken sink.new) (O.faults sink.old) (O.faults sink.new) result
-        ⊎ IsUnanswered turns.new (O.taken sink.old) (O.taken sink.new) (O.faults sink.old) (O.faults sink.new) result }
+        ⊎ IsUnanswered request.now turns.new (O.taken sink.old) (O.taken sink.new) (O.faults sink.old) (O.faults sink.new) result }
     ensures draws { IsDrawn (C.answers clock.old) (C.answers clock.new) (D.answers dice.old) (D.answers dice.new) turns.new result }
     ensures opening { state.new.opening ≡ state.old.opening }
     ensures journal { state.new.journal ≡ [] }
@@ -143,6 +143,7 @@ pub(crate) fn run_session<S: Source, O: Sink, K: Committer, C: Clock, D: Dice, L
         × ReadsAll bytes (S.left source.new) result
         × IsSession state.old.opening [] turns.new bytes out result
         × Takes (O.taken sink.old) (O.taken sink.new) (O.faults sink.old) (O.faults sink.new) out result }
+    ensures bounded { (bytes : List ℕ) × Consumes (S.left source.old) (S.left source.new) bytes × (length bytes ≤ 16_896) }
     ensures draws { IsDrawn (C.answers clock.old) (C.answers clock.new) (D.answers dice.old) (D.answers dice.new) turns.new result }
     ensures source_fault { result ≡ SourceFault → Rose (S.faults source.old) (S.faults source.new) }
     ensures done { result ≡ Done → IsAtEnd (S.left source.new) }

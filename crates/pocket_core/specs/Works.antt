@@ -3,6 +3,8 @@ use Rattle.std.specs.Prelude.{◌≡◌, ℕ, Bool, ◌==◌, ◌++◌, List, []
 use Rattle.std.specs.Option.{option_map}
 use Rattle.std.specs.List.{starts_with}
 use Rattle.std.specs.Char.{to_ascii_lowercase}
+use Rattle.pocket_types.specs.declared.requests.Method.{Method}
+use Rattle.pocket_types.specs.declared.requests.Method.TheVariants.{Get}
 use Rattle.pocket_types.specs.declared.requests.Pair.{Pair}
 use Rattle.pocket_wire.specs.Requests.{IsViewTarget}
 use Rattle.pocket_wire.specs.declared.request.Request.{Request}
@@ -34,11 +36,11 @@ token_in headers = option_map (λ header. without_bearer header.value) (find is_
 abbrev pub token_of : List Pair → Option (List ℕ)
 token_of headers = token_in (map header_pair headers)
 
--- what a target calls for
-abbrev pub IsCallOf : List ℕ → Call → Type 0
-IsCallOf target NoRoute = (collection id : List ℕ) → ¬ IsViewTarget target collection id
-IsCallOf target (View named shown) =
-    IsViewTarget target named.collection named.id × (shown ≡ record { expand = None; fields = None })
+-- what a method and a target call for: a view is a GET
+abbrev pub IsCallOf : Method → List ℕ → Call → Type 0
+IsCallOf method target NoRoute = method ≡ Get → (collection id : List ℕ) → ¬ IsViewTarget target collection id
+IsCallOf method target (View named shown) =
+    (method ≡ Get) × IsViewTarget target named.collection named.id × (shown ≡ record { expand = None; fields = None })
 
 -- the work of a request under a draw
 pub record IsWorkOf (request : Request) (draw : Draw) (work : Work) : Type 0 where
@@ -47,5 +49,5 @@ pub record IsWorkOf (request : Request) (draw : Draw) (work : Work) : Type 0 whe
   pub headers : work.headers ≡ map header_pair request.headers
   pub query : work.query ≡ []
   pub drawn : work.draw ≡ draw
-  pub calls : IsCallOf request.target work.call
+  pub calls : IsCallOf request.method request.target work.call
   pub cost : work.cost ≡ request.cost

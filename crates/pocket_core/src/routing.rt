@@ -1,9 +1,10 @@
 ghost use Rattle.std.specs.Prelude.{◌≡◌, IfOk, find, map};
 ghost use Rattle.std.specs.Option.{option_copied};
+ghost use Rattle.pocket_types.specs.declared.requests.Method.TheVariants.{Get};
 ghost use Rattle.pocket_core.specs.Works.{IsCallOf, IsWorkOf, header_byte, header_pair, is_authorization, token_in, without_bearer};
 
 use crate::work::{Call, Draw, Shown, Target, Work};
-use pocket_types::{Pair, Seq, Text};
+use pocket_types::{Method, Pair, Seq, Text};
 use pocket_wire::{Request, view_segments};
 use std::alloc::{AllocError, Global};
 
@@ -69,9 +70,9 @@ fn token(alloc: Global, headers: &[Pair]) -> Result<Option<Text>, AllocError>
     let text = Text::from_str(alloc, bare_token(header.value.as_str()))?;
     Ok(Some(text))
 }
-/// What a target calls for.
-fn call_of(alloc: Global, target: &str) -> Result<Call, AllocError>
-    ensures { IfOk result (IsCallOf target.now) }
+/// The call for a view of the record that a target names.
+fn view_of(alloc: Global, target: &str) -> Result<Call, AllocError>
+    ensures { IfOk result (IsCallOf Get target.now) }
 {
     let Some((collection, id)) = view_segments(target) else {
         return Ok(Call::NoRoute);
@@ -88,13 +89,23 @@ fn call_of(alloc: Global, target: &str) -> Result<Call, AllocError>
     })
 }
 
+/// What a method and a target call for.
+fn call_of(alloc: Global, method: Method, target: &str) -> Result<Call, AllocError>
+    ensures { IfOk result (IsCallOf method target.now) }
+{
+    match method {
+        Method::Get => view_of(alloc, target),
+        Method::Post | Method::Patch | Method::Put | Method::Delete => Ok(Call::NoRoute),
+    }
+}
+
 /// The work of a request, which is judged at the moment of the draw.
 pub fn work_of(alloc: Global, request: &Request, draw: Draw) -> Result<Work, AllocError>
     ensures { IfOk result (IsWorkOf request.now draw) }
 {
     let headers = headers_of(alloc, request.headers.as_slice())?;
     let token = token(alloc, headers.as_slice())?;
-    let call = call_of(alloc, request.target.as_str())?;
+    let call = call_of(alloc, request.method, request.target.as_str())?;
     Ok(Work {
         token,
         method: request.method,

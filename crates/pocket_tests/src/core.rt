@@ -131,6 +131,20 @@ fn makes_works(rt: HostRuntime) -> Result<(), Fail> {
     Ok(())
 }
 
+// A view is a GET.
+#[test]
+fn routes_other_methods_nowhere(rt: HostRuntime) -> Result<(), Fail> {
+    let alloc = rt.alloc();
+    for method in [Method::Post, Method::Patch, Method::Put, Method::Delete] {
+        let mut request = request(alloc, "/api/collections/a/records/b", &[])?;
+        request.method = method;
+        let work = work_of(alloc, &request, draw()?)?;
+        assert!(rt; matches!(work.call, Call::NoRoute), "{method:?}");
+        assert_eq!(rt; work.method, method);
+    }
+    Ok(())
+}
+
 /// Whether a reply with this status and body has these bytes.
 fn frames(alloc: Global, reply: &Reply, close: bool, want: &[u8]) -> Result<bool, AllocError> {
     let bytes = reply_bytes(alloc, reply, close)?;

@@ -6,4 +6,6 @@ mod keeper;
 #[cfg(test)]
 mod rows;
 #[cfg(test)]
+mod types;
+#[cfg(test)]
 mod wire;

@@ -1,4 +1,4 @@
-ghost use Rattle.std.specs.Prelude.{IfOk, OnSome};
+ghost use Rattle.std.specs.Prelude.{IfOk, IfSome};
 ghost use Rattle.pocket_keeper.specs.Plain.{IsPlainCollection};
 
 use pocket_keeper::{
@@ -53,7 +53,7 @@ fn is_refused(alloc: Global, key: &str, value: &str) -> Result<bool, AllocError>
 }
 
 fn collection(alloc: Global, field: &str) -> Result<Option<Collection>, AllocError>
-    ensures { IfOk result (λ found. OnSome found (λ c. IsPlainCollection c)) }
+    ensures { IfOk result (λ found. IfSome found (λ c. IsPlainCollection c)) }
 {
     let value = named(alloc, "notes", field)?;
     read_collection(alloc, &row(alloc, "c/notes", value.as_str())?)
@@ -95,10 +95,9 @@ fn a_collection_has_its_parts(rt: HostRuntime) -> Result<(), Fail> {
     Ok(())
 }
 
-#[test]
-fn other_collection_rows_are_refused(rt: HostRuntime) -> Result<(), Fail> {
-    let alloc = rt.alloc();
-    let changes = [
+/// What makes another text of the notes' row, with what stands there instead.
+fn changes() -> [(&'static str, &'static str); 12] {
+    [
         ("{\"c", "{ \"c"),
         ("createRule", "deleteRule"),
         (",\"viewRule\":\"\"", ""),
@@ -111,7 +110,13 @@ fn other_collection_rows_are_refused(rt: HostRuntime) -> Result<(), Fail> {
         ("false}],", "false},{\"hidden\":false}],"),
         ("\"text\",\"r", "\"te\\u0078t\",\"r"),
         (notes(), ""),
-    ];
+    ]
+}
+
+#[test]
+fn other_collection_rows_are_refused(rt: HostRuntime) -> Result<(), Fail> {
+    let alloc = rt.alloc();
+    let changes = changes();
     for change in &changes {
         let value = notes().replace(alloc, change.0, change.1)?;
         assert!(rt; is_refused(alloc, "c/notes", value.as_str())?);
@@ -176,10 +181,9 @@ fn holds(alloc: Global, field: &str, value: &str, text: &str) -> Result<bool, Al
     }
 }
 
-#[test]
-fn records_are_read_and_printed(rt: HostRuntime) -> Result<(), Fail> {
-    let alloc = rt.alloc();
-    let cases = [
+/// Names of fields, values of rows, and the texts that they hold.
+fn cases() -> [(&'static str, &'static str, &'static str); 8] {
+    [
         (
             "text",
             "{\"created\":@,\"text\":\"hello\",\"updated\":@}",
@@ -212,7 +216,13 @@ fn records_are_read_and_printed(rt: HostRuntime) -> Result<(), Fail> {
             "{\"created\":@,\"text\":\"\\\",\\\"updated\\\":\",\"updated\":@}",
             "\",\"updated\":",
         ),
-    ];
+    ]
+}
+
+#[test]
+fn records_are_read_and_printed(rt: HostRuntime) -> Result<(), Fail> {
+    let alloc = rt.alloc();
+    let cases = cases();
     for case in &cases {
         let value = dated(alloc, case.1)?;
         assert!(rt; holds(alloc, case.0, value.as_str(), case.2)?);
@@ -257,10 +267,9 @@ fn is_no_rec(alloc: Global, key: &str, members: &str) -> Result<bool, AllocError
     Ok(read_rec(alloc, &notes, &row(alloc, key, value.as_str())?)?.is_none())
 }
 
-#[test]
-fn other_keys_of_records_are_refused(rt: HostRuntime) -> Result<(), Fail> {
-    let alloc = rt.alloc();
-    let keys = [
+/// Keys that aren't of a record of the notes.
+fn other_keys() -> [&'static str; 10] {
+    [
         "r/notes/note0000000001",
         "r/notes/note000000000011",
         "r/notes/Note00000000001",
@@ -271,7 +280,13 @@ fn other_keys_of_records_are_refused(rt: HostRuntime) -> Result<(), Fail> {
         "c/notes/note00000000001",
         "r/notes/note00000000001/",
         "",
-    ];
+    ]
+}
+
+#[test]
+fn other_keys_of_records_are_refused(rt: HostRuntime) -> Result<(), Fail> {
+    let alloc = rt.alloc();
+    let keys = other_keys();
     for key in &keys {
         assert!(rt;
             is_no_rec(
@@ -284,10 +299,9 @@ fn other_keys_of_records_are_refused(rt: HostRuntime) -> Result<(), Fail> {
     Ok(())
 }
 
-#[test]
-fn other_values_of_records_are_refused(rt: HostRuntime) -> Result<(), Fail> {
-    let alloc = rt.alloc();
-    let values = [
+/// Values that no record of the notes has.
+fn other_values() -> [&'static str; 20] {
+    [
         "{\"created\":@,\"text\": \"hello\",\"updated\":@}",
         "{\"text\":\"hello\",\"created\":@,\"updated\":@}",
         "{\"created\":@,\"updated\":@,\"text\":\"hello\"}",
@@ -308,7 +322,13 @@ fn other_values_of_records_are_refused(rt: HostRuntime) -> Result<(), Fail> {
         "{\"created\":@,\"text\":\"\n\",\"updated\":@}",
         "{\"created\":@,\"text\":\"\"\",\"updated\":@}",
         "",
-    ];
+    ]
+}
+
+#[test]
+fn other_values_of_records_are_refused(rt: HostRuntime) -> Result<(), Fail> {
+    let alloc = rt.alloc();
+    let values = other_values();
     for value in &values {
         assert!(rt; is_no_rec(alloc, "r/notes/note00000000001", value)?);
     }

@@ -1,5 +1,5 @@
 -- The requests that stand in bytes: the form that is built so far, one view of a record.
-use Rattle.std.specs.Prelude.{◌≡◌, ◌≢◌, ℕ, ◌≤◌, ◌<◌, ◌==◌, ◌||◌, not, ◌⊎◌, Bool, false, List, [], ◌∷◌, ◌++◌, length, map, flat_map, All, codes, slice_index, Option, if◌then◌else◌, nat_lt, ◌&&◌, IsTrue}
+use Rattle.std.specs.Prelude.{◌≡◌, ◌≢◌, ℕ, ◌≤◌, ◌<◌, ◌==◌, ◌||◌, not, ◌⊎◌, Bool, false, List, [], ◌∷◌, ◌++◌, length, map, flat_map, All, codes, slice_index, Option, Result, IsErrOf, if◌then◌else◌, nat_lt, ◌&&◌, IsTrue}
 use Rattle.std.specs.List.{list_all}
 use Rattle.std.specs.Char.{to_ascii_lowercase}
 use Rattle.std.specs.Str.{is_utf8}
@@ -13,6 +13,8 @@ use Rattle.pocket_wire.specs.declared.request.Ended.{Ended}
 use Rattle.pocket_wire.specs.declared.request.Ended.TheVariants.{Done, Refused}
 use Rattle.pocket_wire.specs.declared.request.Next.{Next}
 use Rattle.pocket_wire.specs.declared.request.Next.TheVariants as next
+use Rattle.pocket_wire.specs.declared.request.WireFault.{WireFault}
+use Rattle.pocket_wire.specs.declared.request.WireFault.TheVariants as fault
 
 -- a byte of a segment of a path: neither `/` nor `?`
 abbrev pub is_segment_byte : ℕ → Bool
@@ -83,6 +85,11 @@ AreDetermined = (bytes : List ℕ) (one other : List Request) (rest end : Ended)
 -- nothing is left, or there are more bytes than a request of the built form has
 abbrev pub IsWholeInput : List ℕ → Option (List ℕ) → Type 0
 IsWholeInput bytes left = IsAtEnd left ⊎ (16384 < length bytes)
+
+-- no byte was asked for once more than 16,384 were there, in pieces of at most 512; a read fails only before that
+pub record IsBounded {T : Type 0} (got : List ℕ) (result : Result T WireFault) : Type 0 where
+  pub few : length got ≤ 16896
+  pub source : IsErrOf result fault.SourceFault → length got ≤ 16384
 
 -- what these bytes are, which are all that there are or more than a request of the built form has
 abbrev pub IsNextOf : List ℕ → Next → Type 0

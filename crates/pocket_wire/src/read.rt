@@ -1,7 +1,7 @@
 ghost use Rattle.std.specs.Prelude.{◌≡◌, ◌≤◌, ◌++◌, ℕ, List, [], IfOk, OnOk, IsErrOf};
 ghost use Rattle.std.specs.Io.KnownBytes.{Consumes};
 ghost use Rattle.pocket_types.specs.Causes.{Rose, StaysUntold};
-ghost use Rattle.pocket_wire.specs.Requests.{IsNext, IsNextOf, IsWholeInput};
+ghost use Rattle.pocket_wire.specs.Requests.{IsBounded, IsNext, IsNextOf, IsWholeInput};
 
 use crate::head::{LIMIT, plain_request};
 use crate::request::{Inbox, Next, WireFault};
@@ -15,6 +15,7 @@ fn fill<S: Source>(bytes: &mut Vec<u8>, source: &mut S) -> Result<(), WireFault>
     ensures got { (got : List ℕ) × Consumes (S.left source.old) (S.left source.new) got
         × OnOk result (bytes.new.items ≡ bytes.old.items ++ got) }
     ensures whole { OnOk result (IsWholeInput bytes.new.items (S.left source.new)) }
+    ensures bounded { (got : List ℕ) × Consumes (S.left source.old) (S.left source.new) got × IsBounded got result }
     ensures fault { IsErrOf result WireFault.SourceFault → Rose (S.faults source.old) (S.faults source.new) }
     ensures count { S.faults source.old ≤ S.faults source.new }
     ensures untold { StaysUntold (S.left source.old) (S.left source.new) }
@@ -59,6 +60,7 @@ pub fn next_request<S: Source>(
 ) -> Result<Next, WireFault>
     ensures next { (got : List ℕ) × Consumes (S.left source.old) (S.left source.new) got
         × IfOk result (IsNext (inbox.old.left ++ got) (S.left source.new) inbox.new.left) }
+    ensures bounded { (got : List ℕ) × Consumes (S.left source.old) (S.left source.new) got × IsBounded got result }
     ensures fault { IsErrOf result WireFault.SourceFault → Rose (S.faults source.old) (S.faults source.new) }
     ensures count { S.faults source.old ≤ S.faults source.new }
     ensures untold { StaysUntold (S.left source.old) (S.left source.new) }

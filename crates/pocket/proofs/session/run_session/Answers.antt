@@ -1,6 +1,6 @@
 use Rattle.std.proofs.Common.{inl}
 use Rattle.pocket_wire.specs.declared.request.Ended.TheVariants.{Done}
-use Rattle.pocket.proofs.EndLemmas.{closes_unasked, ends_quiet, ends_refused, ends_request, ends_unread, reads_all, reads_some}
+use Rattle.pocket.proofs.EndLemmas.{closes, no_last, ends_quiet, ends_refused, ends_request, ends_unread, reads_all, reads_some}
 use Rattle.pocket.proofs.session.run_session.Goals as goal
 
 pub returns-in-Ok-Request-clause-session : goal.returns-in-Ok-Request-clause-session
@@ -29,6 +29,6 @@ returns-in-Ok-Refused-clause-session g c =
 pub returns-clause-session : goal.returns-clause-session
 returns-clause-session g c =
     let n = c.in-Err-Memory.ensures.next in
-    let e = closes_unasked c.args.state.now.opening c.args.turns.now n.0 _ _ _ _ c.close_without_memory.result c.requires.none
+    let e = closes c.args.state.now.opening c.args.turns.now n.0 _ _ _ _ c.close_without_memory.result (no_last n.0 c.args.turns.now c.requires.none)
     c.close_without_memory.ensures.sent in
     (n.0, e.0, n.1, reads_some n.0 (g.S.Source.left c.next_request.new.source) c.close_without_memory.result c.close_without_memory.ensures.sent.0, e.1, e.2)

@@ -1,4 +1,4 @@
-use Rattle.std.proofs.Common.{◌≡◌, ◌≤◌, ◌++◌, ◌-◌, ℕ, List, vec_len}
+use Rattle.std.proofs.Common.{◌≡◌, ◌≤◌, ◌++◌, ◌-◌, ℕ, List, length, vec_len}
 use Rattle.std.specs.Io.KnownBytes.{Consumes}
 use Rattle.pocket_types.specs.Causes.{StaysUntold}
 use Rattle.pocket_wire.proofs.read.fill.Given as goal
@@ -6,7 +6,7 @@ use Rattle.pocket_wire.proofs.read.fill.Given as goal
 abbrev pub invariant-fill : goal.invariant-fill
 invariant-fill g l = record {
   got : (got : List ℕ) × Consumes (g.S.Source.left l.fn.source) (g.S.Source.left l.source) got
-      × (l.bytes.items ≡ l.fn.bytes.items ++ got);
+      × (l.bytes.items ≡ l.fn.bytes.items ++ got) × (length got ≤ 16896);
   count : g.S.Source.faults l.fn.source ≤ g.S.Source.faults l.source;
   untold : StaysUntold (g.S.Source.left l.fn.source) (g.S.Source.left l.source);
   apart : g.S.Source.untouched l.source ≡ g.S.Source.untouched l.fn.source;
