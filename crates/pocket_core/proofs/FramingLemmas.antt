@@ -1,6 +1,6 @@
 -- The text of a reply, piece by piece.
-use Rattle.std.proofs.Common.{◌≡◌, ℕ, List, [], ◌∷◌, ◌++◌, false, ap, sym, ◌∙◌, arith, refl, append_assoc, codes, decimal}
-use Rattle.std.specs.Prelude.{◌==◌, if◌then◌else◌}
+use Rattle.std.proofs.Common.{◌≡◌, ℕ, List, ◌++◌, false, ap, ◌∙◌, arith, refl, append_assoc, codes, decimal}
+use Rattle.std.specs.Prelude.{◌==◌}
 use Rattle.pocket_wire.specs.Phrases.{phrase, line_end, status_line}
 use Rattle.pocket_core.specs.Replies.{body_headers}
 

@@ -1,20 +1,20 @@
 -- What is true of the shelves while the rows are read one by one.
-use Rattle.std.proofs.Common.{◌≡◌, ◌≢◌, ◌↔◌, ◌⊎◌, inl, inr, ℕ, zero, suc, ◌+◌, ◌<◌, ◌≤◌, List, [], ◌∷◌, ◌++◌, Option, Some, None, length, get_or, map, take, drop, refl, sym, ◌∙◌, ap, subst, arith, All, codes}
+use Rattle.std.proofs.Common.{◌≡◌, ◌↔◌, ◌⊎◌, inl, inr, ℕ, zero, suc, ◌+◌, ◌<◌, ◌≤◌, List, [], ◌∷◌, ◌++◌, Some, length, get_or, map, take, drop, refl, sym, ◌∙◌, ap, subst, arith, All, codes}
 use Rattle.std.specs.Prelude.{Contains, slice_get, slice_set}
 use Rattle.std.specs.List.{flat_map}
 use Rattle.std.proofs.lemmas.Grind.{common_steps, flat_map-append}
-use Rattle.std.proofs.lemmas.List.{take_more, append-nil, map-append, take-append-drop}
-use Rattle.std.proofs.lemmas.List.Elements.{All-head, All-tail, All-cons, All-push, All-set}
+use Rattle.std.proofs.lemmas.List.{take_more, map-append, take-append-drop}
+use Rattle.std.proofs.lemmas.List.Elements.{All-push, All-set}
 use Rattle.pocket_types.specs.Order.{IsBefore, Rises}
 use Rattle.pocket_types.proofs.OrderLemmas.{before_from_append, not_before_itself, not_before_back, rises_nil, rises_push, rises_cons, rises_first, rises_rest, rises_across, rises_back}
 use Rattle.pocket_types.specs.declared.records.Collection.{Collection}
 use Rattle.pocket_types.specs.declared.records.Rec.{Rec}
 use Rattle.pocket_types.specs.declared.world.Shelf.{Shelf}
-use Rattle.pocket_keeper.specs.Plain.{IsPlainCollection, IsPlainRec, HoldsCollection, HoldsRec, LacksCollection, LacksRec}
+use Rattle.pocket_keeper.specs.Plain.{IsPlainCollection, IsPlainRec, LacksRec}
 use Rattle.pocket_keeper.specs.Rows.{IsRising}
-use Rattle.pocket_keeper.specs.Texts.{collection_row, rec_row, rec_key}
+use Rattle.pocket_keeper.specs.Texts.{collection_row, rec_row}
 use Rattle.pocket_keeper.specs.declared.rows.KeptRow.{KeptRow}
-use Rattle.pocket_core.specs.Opening.{IsCollectionRow, IsRecRow, IsGoodRow, IsFirstBadRow, IsPlainShelf, IsPlainWorld, IsWorldOf, HaveSameRows, shelf_rows, rows_of}
+use Rattle.pocket_core.specs.Opening.{IsGoodRow, IsFirstBadRow, IsPlainShelf, IsWorldOf, shelf_rows}
 use Rattle.pocket_core.specs.Reading.{AddsRow, AddsShelf, AddsRec, HoldsRecAt, IsFaultOf, LacksRow, NamesRow, with_rec}
 use Rattle.pocket_core.specs.declared.opening.StartFault.{StartFault}
 use Rattle.pocket_core.specs.declared.opening.StartFault.TheVariants.{KeeperFault, BadStore, Memory}

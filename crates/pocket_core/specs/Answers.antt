@@ -1,5 +1,5 @@
 -- What the abstract machine answers.
-use Rattle.std.specs.Prelude.{◌≡◌, ℕ, Bool, true, false, ◌++◌, ◌∷◌, [], List, length, Option, Some, None, codes, if◌then◌else◌, IsTrue, ◌⊎◌}
+use Rattle.std.specs.Prelude.{◌≡◌, ℕ, Bool, true, false, ◌++◌, ◌∷◌, [], List, length, Option, Some, None, codes, if◌then◌else◌, IsTrue}
 use Rattle.std.specs.Fmt.{decimal}
 use Rattle.pocket_types.specs.Json.{printed}
 use Rattle.pocket_types.specs.World.{shelf_named, rec_of}
@@ -19,7 +19,6 @@ use Rattle.pocket_core.specs.declared.reply.Why.{Why}
 use Rattle.pocket_core.specs.declared.reply.Why.TheVariants as why
 use Rattle.pocket_core.specs.declared.work.Call.{Call}
 use Rattle.pocket_core.specs.declared.work.Call.TheVariants as call
-use Rattle.pocket_core.specs.declared.work.Target.{Target}
 use Rattle.pocket_core.specs.declared.work.Work.{Work}
 use Rattle.pocket_core.specs.States.{MachineState, caller_of, after}
 

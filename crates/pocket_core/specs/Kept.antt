@@ -1,6 +1,6 @@
 -- What a state holds beside what contracts see of it.
 use Rattle.std.specs.Prelude.{◌≡◌}
-use Rattle.pocket_core.specs.States.{MachineState, StateView, after}
+use Rattle.pocket_core.specs.States.{StateView, after}
 use Rattle.pocket_core.specs.Opening.{IsPlainWorld}
 use Rattle.pocket_core.specs.declared.state.State.TheInside.{Inside}
 

@@ -1,5 +1,5 @@
 -- Which rows stand for which world, and the first row that stands for nothing.
-use Rattle.std.specs.Prelude.{◌≡◌, ◌↔◌, ◌⊎◌, ℕ, List, [], ◌∷◌, ◌++◌, map, All, Contains, Option, Some, None, ⊤}
+use Rattle.std.specs.Prelude.{◌≡◌, ◌↔◌, ◌⊎◌, ℕ, List, ◌∷◌, ◌++◌, map, All, Contains, Option, Some, None, ⊤}
 use Rattle.std.specs.List.{flat_map}
 use Rattle.pocket_types.specs.Order.{Rises}
 use Rattle.pocket_types.specs.declared.records.Collection.{Collection}

@@ -1,5 +1,5 @@
 -- The bytes of a reply.
-use Rattle.std.specs.Prelude.{ℕ, Bool, ◌==◌, ◌++◌, List, [], ◌∷◌, length, codes, if◌then◌else◌}
+use Rattle.std.specs.Prelude.{ℕ, Bool, ◌==◌, ◌++◌, List, [], length, codes, if◌then◌else◌}
 use Rattle.std.specs.Fmt.{decimal}
 use Rattle.pocket_wire.specs.Phrases.{line_end, status_line}
 use Rattle.pocket_core.specs.Answers.{refusal_text}

@@ -1,5 +1,5 @@
 -- States, histories, and who sends a request.
-use Rattle.std.specs.Prelude.{◌≡◌, ℕ, List, Option, Some, None, bytes_eq, fold, if◌then◌else◌}
+use Rattle.std.specs.Prelude.{ℕ, List, Option, Some, None, bytes_eq, fold, if◌then◌else◌}
 use Rattle.pocket_types.specs.declared.requests.Caller.{Caller}
 use Rattle.pocket_types.specs.declared.requests.Caller.TheVariants.{Admin, Guest}
 use Rattle.pocket_types.specs.declared.world.World.{World}

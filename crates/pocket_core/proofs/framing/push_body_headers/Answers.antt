@@ -1,4 +1,4 @@
-use Rattle.std.proofs.Common.{◌≡◌, ap, sym, ◌∙◌, ◌++◌, decimal, codes}
+use Rattle.std.proofs.Common.{decimal, codes}
 use Rattle.pocket_wire.specs.Phrases.{line_end}
 use Rattle.pocket_core.proofs.FramingLemmas.{body_headers_are, three_pieces}
 use Rattle.pocket_core.proofs.framing.push_body_headers.Goals as goal

@@ -1,4 +1,3 @@
-use Rattle.std.proofs.Common.{take}
 use Rattle.pocket_core.proofs.OpeningLemmas.{AreReadFrom}
 use Rattle.pocket_core.proofs.opening.read_rows.Given as goal
 

@@ -1,4 +1,3 @@
-use Rattle.pocket_types.specs.declared.world.Shelf.{Shelf}
 use Rattle.pocket_core.specs.Opening.{IsPlainShelf}
 use Rattle.pocket_keeper.specs.Plain.{IsPlainRec}
 use Rattle.pocket_core.proofs.ListLemmas.{found_passes}
