@@ -1,5 +1,5 @@
 -- How a session ends.
-use Rattle.std.proofs.Common.{◌≡◌, ◌⊎◌, inl, inr, ℕ, List, [], ◌∷◌, ◌++◌, Option, Some, None, true, false, length, refl, sym, ◌∙◌, ap, subst}
+use Rattle.std.proofs.Common.{◌≡◌, ◌⊎◌, inl, inr, ℕ, List, [], ◌∷◌, Option, Some, None, true, refl, sym, ◌∙◌, subst}
 use Rattle.std.specs.Io.KnownBytes.{Appends}
 use Rattle.std.proofs.lemmas.List.{append-nil}
 use Rattle.pocket_wire.specs.Phrases.{refused_bytes}
@@ -117,16 +117,35 @@ pub ends_unread : (opening : MachineState) (turns : List Turn) (bytes : List ℕ
     → Ends opening turns bytes told told count count SourceFault
 ends_unread opening turns bytes told count none = ([], subst (λ t. Exchanges opening [] 0 [] t []) (sym none) (refl, refl), appends_none told)
 
+-- what is sent fails for the sink or for memory alone
+module _ (old new : Option (List ℕ)) (before now : ℕ) (ended : Ended) where
+  sent_ends : (out : List ℕ) (then : Ended) → (then ≡ SourceFault → ⊥) → IsSent old new before now out then ended → ended ≡ SourceFault → ⊥
+  sent_ends out then other (inl (e, all)) s = other (sym e ∙ s)
+  sent_ends out then other (inr (e, front, rose)) s = cc (sym e ∙ s)
+
+  closing_ends : IsClosing old new before now ended → ended ≡ SourceFault → ⊥
+  closing_ends (e, some) s = cc (sym e ∙ s)
+
+  pub answer_ends : (opening : MachineState) (request : Request) (turns : List Turn)
+      → IsAnswered opening request turns old new before now ended ⊎ IsUnanswered request turns old new before now ended → ended ≡ SourceFault → ⊥
+  answer_ends opening request turns (inl a) s = sent_ends a.text Done (λ e. cc e) a.sent s
+  answer_ends opening request turns (inr u) s = closing_ends u.closed s
+
+  pub refusal_ends : (out : List ℕ) (status : ℕ) → IsSent old new before now out (Refused status) ended ⊎ IsClosing old new before now ended
+      → ended ≡ SourceFault → ⊥
+  refusal_ends out status (inl sent) s = sent_ends out (Refused status) (λ e. cc e) sent s
+  refusal_ends out status (inr closed) s = closing_ends closed s
+
 -- an input that was read whole is so however the session ends
-pub reads_all : (bytes : List ℕ) (left : Option (List ℕ)) (ended : Ended) → IsWholeInput bytes left → ReadsAll bytes left ended
-reads_all bytes left Done h = h
-reads_all bytes left Closed h = h
-reads_all bytes left (Refused status) h = h
-reads_all bytes left Truncated h = h
-reads_all bytes left Limit h = h
-reads_all bytes left SourceFault h = tt
-reads_all bytes left SinkFault h = h
-reads_all bytes left Memory h = tt
+pub reads_all : (bytes : List ℕ) (left : Option (List ℕ)) (ended : Ended) → (ended ≡ SourceFault → ⊥) → IsWholeInput bytes left → ReadsAll bytes left ended
+reads_all bytes left Done other h = h
+reads_all bytes left Closed other h = h
+reads_all bytes left (Refused status) other h = h
+reads_all bytes left Truncated other h = h
+reads_all bytes left Limit other h = h
+reads_all bytes left SourceFault other h = absurd (other refl)
+reads_all bytes left SinkFault other h = h
+reads_all bytes left Memory other h = tt
 
 -- where memory was wanting nothing is said of what is left
 pub reads_some : (bytes : List ℕ) (left : Option (List ℕ)) (ended : Ended) → ended ≡ Memory → ReadsAll bytes left ended

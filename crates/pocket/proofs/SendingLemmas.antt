@@ -1,11 +1,11 @@
 -- What is sent, by the kind of body.
-use Rattle.std.proofs.Common.{◌≡◌, ◌⊎◌, inl, inr, ℕ, List, Option, false, true, refl, sym}
+use Rattle.std.proofs.Common.{◌≡◌, inl, inr, ℕ, List, Option, false, true, refl}
 use Rattle.pocket_wire.specs.declared.request.Ended.{Ended}
 use Rattle.pocket_wire.specs.declared.request.Ended.TheVariants.{Memory}
 use Rattle.pocket_core.specs.Replies.{no_memory_text, reply_text, body_text}
 use Rattle.pocket_core.specs.declared.reply.ReplyBody.{ReplyBody}
 use Rattle.pocket_core.specs.declared.reply.ReplyBody.TheVariants.{Empty, NoMemory, Made}
-use Rattle.pocket.specs.Sending.{IsClosing, IsSent, TakesSome, sent_text}
+use Rattle.pocket.specs.Sending.{IsSent, TakesSome, sent_text}
 
 -- a reply that doesn't say that memory is wanting is sent as it is
 pub sent_is : (status : ℕ) (body : ReplyBody) → (body ≡ NoMemory → ⊥) → sent_text status body ≡ reply_text status (body_text body) false

@@ -1,10 +1,8 @@
 -- One request and its reply.
-use Rattle.std.proofs.Common.{◌≡◌, ◌⊎◌, inl, inr, ℕ, zero, suc, ◌+◌, List, [], ◌∷◌, ◌++◌, Bool, true, false, Option, Some, None, length, take, map, refl, sym, ◌∙◌, ap, subst, arith}
-use Rattle.std.specs.Prelude.{IsTrue, IsNone, slice_get}
-use Rattle.std.specs.List.{flat_map}
+use Rattle.std.proofs.Common.{◌≡◌, ◌⊎◌, inl, inr, ℕ, List, [], ◌∷◌, ◌++◌, Bool, true, false, Option, Some, None, length, refl, sym, ◌∙◌, ap, subst}
+use Rattle.std.specs.Prelude.{IsTrue}
 use Rattle.std.proofs.lemmas.List.{append-nil}
 use Rattle.pocket_types.specs.World.{shelf_named, rec_of}
-use Rattle.pocket_types.specs.Causes.{StaysUntold}
 use Rattle.pocket_types.specs.declared.moments.Moment.{Moment}
 use Rattle.pocket_types.specs.declared.requests.Caller.{Caller}
 use Rattle.pocket_types.specs.declared.records.Collection.{Collection}
@@ -14,21 +12,19 @@ use Rattle.pocket_types.specs.declared.world.World.{World}
 use Rattle.pocket_wire.specs.declared.request.Request.{Request}
 use Rattle.pocket_wire.specs.declared.request.Ended.{Ended}
 use Rattle.pocket_wire.specs.declared.request.Ended.TheVariants.{Done, Memory}
-use Rattle.pocket_core.specs.Answers.{Answer, answer, call_answer, view_answer, rec_answer, keeps_out, IsAnswer, IsNoMemory, IsHistoryAfter, Enters}
-use Rattle.pocket_core.specs.Replies.{no_memory_text, reply_text, body_text}
+use Rattle.pocket_core.specs.Answers.{Answer, answer, call_answer, view_answer, rec_answer, keeps_out, IsAnswer, IsNoMemory, IsHistoryAfter}
+use Rattle.pocket_core.specs.Replies.{no_memory_text}
 use Rattle.pocket_core.specs.States.{MachineState, after, caller_of}
 use Rattle.pocket_core.specs.Works.{IsWorkOf}
 use Rattle.pocket_core.specs.declared.reply.Reply.{Reply}
-use Rattle.pocket_core.specs.declared.reply.ReplyBody.{ReplyBody}
-use Rattle.pocket_core.specs.declared.reply.ReplyBody.TheVariants.{Empty, NoMemory, Made}
 use Rattle.pocket_core.specs.declared.work.Call.{Call}
 use Rattle.pocket_core.specs.declared.work.Call.TheVariants.{NoRoute, View}
 use Rattle.pocket_core.specs.declared.work.Draw.{Draw}
 use Rattle.pocket_core.specs.declared.work.Work.{Work}
-use Rattle.pocket.specs.Drawing.{AddsAnswers, IsDrawn, draws_of, moments_of, words_of}
+use Rattle.pocket.specs.Drawing.{AddsAnswers, IsDrawn}
 use Rattle.pocket.specs.Sending.{IsClosing, IsSent, sent_text}
 use Rattle.pocket.specs.Serving.{IsAnswered, IsUnanswered}
-use Rattle.pocket.specs.Sessions.{IsExchange, IsReplyText, IsTurnOf, answer_text}
+use Rattle.pocket.specs.Sessions.{IsExchange, IsTurnOf, answer_text}
 use Rattle.pocket.specs.declared.status.Turn.{Turn}
 
 -- ---- no call that is built so far enters its work

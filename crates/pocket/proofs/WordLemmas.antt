@@ -1,8 +1,7 @@
 -- Four words.
-use Rattle.std.proofs.Common.{◌≡◌, ℕ, ◌+◌, ◌<◌, ◌≤◌, List, [], ◌∷◌, length, get_or, map, refl, sym, ap, subst, ◌∙◌, arith, codes, true, Global}
+use Rattle.std.proofs.Common.{◌≡◌, ℕ, ◌<◌, ◌≤◌, List, [], ◌∷◌, length, get_or, map, refl, ap, ◌∙◌, arith, codes, Global}
 use Rattle.std.specs.Prelude.{IsTrue, String}
 use Rattle.std.specs.String.{string_bytes}
-use Rattle.std.proofs.lemmas.Grind.{common_steps}
 use Rattle.pocket.specs.Words.{IsPipe, is_token}
 
 pub four_items : {X : Type 0} (ws : List X) (a b c d : X) → 4 ≤ length ws → length ws < 5 → a ≡ get_or ws 0 a → b ≡ get_or ws 1 b

@@ -1,5 +1,5 @@
 -- What a run says of the clock and the dice.
-use Rattle.std.specs.Prelude.{◌≡◌, ◌⊎◌, ℕ, List, [], ◌∷◌, ◌++◌, map, length, Option, Some, None, ⊤}
+use Rattle.std.specs.Prelude.{◌≡◌, ◌⊎◌, ℕ, List, [], ◌++◌, map, length, Option, Some, None, ⊤}
 use Rattle.std.specs.List.{flat_map}
 use Rattle.pocket_types.specs.declared.moments.Moment.{Moment}
 use Rattle.pocket_wire.specs.declared.request.Ended.{Ended}

@@ -1,5 +1,5 @@
 -- What a run comes to.
-use Rattle.std.specs.Prelude.{◌≡◌, ℕ, List, [], Option, ⊤}
+use Rattle.std.specs.Prelude.{ℕ, List, Option, ⊤}
 use Rattle.pocket_types.specs.Causes.{Rose}
 use Rattle.pocket_wire.specs.declared.request.Ended.{Ended}
 use Rattle.pocket_keeper.specs.declared.rows.KeptRow.{KeptRow}

@@ -7,7 +7,7 @@ use Rattle.pocket_wire.specs.declared.request.Ended.{Ended}
 use Rattle.pocket_wire.specs.declared.request.Ended.TheVariants.{SinkFault, Memory}
 use Rattle.pocket_core.specs.Replies.{no_memory_text, reply_text, body_text}
 use Rattle.pocket_core.specs.declared.reply.ReplyBody.{ReplyBody}
-use Rattle.pocket_core.specs.declared.reply.ReplyBody.TheVariants.{Empty, NoMemory, Made}
+use Rattle.pocket_core.specs.declared.reply.ReplyBody.TheVariants.{NoMemory}
 
 -- the sink took all, or after a fault that it counted a front
 abbrev pub TakesSome : Option (List ℕ) → Option (List ℕ) → ℕ → ℕ → List ℕ → Type 0

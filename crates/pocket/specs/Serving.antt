@@ -1,11 +1,11 @@
 -- What serving a session's request, and the whole session, comes to.
-use Rattle.std.specs.Prelude.{◌≡◌, ◌⊎◌, ℕ, List, [], ◌∷◌, length, Option, ⊤}
+use Rattle.std.specs.Prelude.{◌≡◌, ◌≤◌, ℕ, List, [], ◌∷◌, length, Option, ⊤}
 use Rattle.std.specs.Io.KnownBytes.{Appends}
 use Rattle.pocket_types.specs.Causes.{Rose}
 use Rattle.pocket_wire.specs.Outside.{AppendsFront}
 use Rattle.pocket_wire.specs.Requests.{IsWholeInput}
 use Rattle.pocket_wire.specs.declared.request.Ended.{Ended}
-use Rattle.pocket_wire.specs.declared.request.Ended.TheVariants.{Done, Closed, Refused, Truncated, Limit, SourceFault, SinkFault, Memory}
+use Rattle.pocket_wire.specs.declared.request.Ended.TheVariants.{Done, SourceFault, SinkFault, Memory}
 use Rattle.pocket_wire.specs.declared.request.Request.{Request}
 use Rattle.pocket_core.specs.States.{MachineState}
 use Rattle.pocket.specs.Sending.{IsClosing, IsSent, TakesSome}
@@ -31,8 +31,9 @@ Takes old new before now out SinkFault = AppendsFront old new out × Rose before
 Takes old new before now out Memory = TakesSome old new before now out
 Takes old new before now out _ = Appends old new out
 
--- the source was read to its end, or gave more bytes than a request of the built form has, unless it failed or memory was wanting
+-- the source was read to its end, or gave more bytes than a request of the built form has, unless it failed before that
+-- or memory was wanting
 abbrev pub ReadsAll : List ℕ → Option (List ℕ) → Ended → Type 0
-ReadsAll bytes left SourceFault = ⊤
+ReadsAll bytes left SourceFault = length bytes ≤ 16384
 ReadsAll bytes left Memory = ⊤
 ReadsAll bytes left _ = IsWholeInput bytes left

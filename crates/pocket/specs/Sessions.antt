@@ -1,6 +1,5 @@
 -- A session: requests, their turns and replies, and how it ended.
-use Rattle.std.specs.Prelude.{◌≡◌, ◌⊎◌, ℕ, ◌+◌, List, [], ◌∷◌, ◌++◌, Bool, true, false, take, length, slice_get, Some, IsTrue, ⊤}
-use Rattle.std.specs.List.{flat_map}
+use Rattle.std.specs.Prelude.{◌≡◌, ◌⊎◌, ℕ, ◌+◌, List, [], ◌∷◌, ◌++◌, true, false, take, length, slice_get, Some, IsTrue, ⊤}
 use Rattle.pocket_wire.specs.Phrases.{refused_bytes}
 use Rattle.pocket_wire.specs.Requests.{RequestsOf}
 use Rattle.pocket_wire.specs.declared.request.Ended.{Ended}

@@ -62,11 +62,9 @@ fn run_opened<S: Source, O: Sink, K: Committer, C: Clock, D: Dice, L: Ledger>(
     requires fresh { state.journal ≡ [] }
     ensures session { OnSession result.ended (λ ended. (bytes : List ℕ) × (out : List ℕ)
         × Consumes (S.left source.old) (S.left source.new) bytes
-        × ReadsAll bytes (S.left source.new) ended
+        × (length bytes ≤ 16_896) × ReadsAll bytes (S.left source.new) ended
         × IsSession state.opening result.journal result.turns bytes out ended
         × Takes (O.taken sink.old) (O.taken sink.new) (O.faults sink.old) (O.faults sink.new) out ended) }
-    ensures bounded { OnSession result.ended (λ _. (bytes : List ℕ) × Consumes (S.left source.old) (S.left source.new) bytes
-        × (length bytes ≤ 16_896)) }
     ensures draws { OnSession result.ended
         (IsDrawn (C.answers clock.old) (C.answers clock.new) (D.answers dice.old) (D.answers dice.new) result.turns) }
     ensures source_fault { OnSession result.ended (λ ended. ended ≡ SourceFault → Rose (S.faults source.old) (S.faults source.new)) }
@@ -110,12 +108,10 @@ pub fn run_plain<S: Source, O: Sink, K: Keeper, C: Clock, D: Dice>(
         × IsOpeningOf (map string_bytes words.now) (K.rows keeper.old) opening
         × (bytes : List ℕ) × (out : List ℕ)
         × Consumes (S.left source.old) (S.left source.new) bytes
-        × ReadsAll bytes (S.left source.new) ended
+        × (length bytes ≤ 16_896) × ReadsAll bytes (S.left source.new) ended
         × IsSession opening result.journal result.turns bytes out ended
         × Takes (O.taken sink.old) (O.taken sink.new) (O.faults sink.old) (O.faults sink.new) out ended
         × IfTold (K.rows keeper.new) (λ told. IsWorldOf told (after opening result.journal).world)) }
-    ensures bounded { OnSession result.ended (λ _. (bytes : List ℕ) × Consumes (S.left source.old) (S.left source.new) bytes
-        × (length bytes ≤ 16_896)) }
     ensures draws { OnSession result.ended
         (IsDrawn (C.answers clock.old) (C.answers clock.new) (D.answers dice.old) (D.answers dice.new) result.turns) }
     ensures source_fault { OnSession result.ended (λ ended. ended ≡ SourceFault → Rose (S.faults source.old) (S.faults source.new)) }

@@ -140,10 +140,9 @@ pub(crate) fn run_session<S: Source, O: Sink, K: Committer, C: Clock, D: Dice, L
     requires fresh { state.old.journal ≡ [] }
     requires none { turns.old ≡ [] }
     ensures session { (bytes : List ℕ) × (out : List ℕ) × Consumes (S.left source.old) (S.left source.new) bytes
-        × ReadsAll bytes (S.left source.new) result
+        × (length bytes ≤ 16_896) × ReadsAll bytes (S.left source.new) result
         × IsSession state.old.opening [] turns.new bytes out result
         × Takes (O.taken sink.old) (O.taken sink.new) (O.faults sink.old) (O.faults sink.new) out result }
-    ensures bounded { (bytes : List ℕ) × Consumes (S.left source.old) (S.left source.new) bytes × (length bytes ≤ 16_896) }
     ensures draws { IsDrawn (C.answers clock.old) (C.answers clock.new) (D.answers dice.old) (D.answers dice.new) turns.new result }
     ensures source_fault { result ≡ SourceFault → Rose (S.faults source.old) (S.faults source.new) }
     ensures done { result ≡ Done → IsAtEnd (S.left source.new) }

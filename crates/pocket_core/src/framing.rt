@@ -68,8 +68,8 @@ fn push_close_header(out: &mut String, close: bool) -> Result<(), AllocError>
     }
 }
 
-/// The bytes of a reply; with `close` it says that the connection ends with it. For the body `NoMemory` the same bytes stand
-/// in `REPLY_507` and `REPLY_507_CLOSE`, which take no memory.
+/// The bytes of a reply; with `close` it says that the connection ends with it. For status 507 with the body `NoMemory` the
+/// same bytes stand in `REPLY_507` and `REPLY_507_CLOSE`, which take no memory.
 pub fn reply_bytes(alloc: Global, reply: &Reply, close: bool) -> Result<Seq<u8>, AllocError>
     ensures { IfOk result (λ bytes. bytes ≡ reply_text reply.now.status (body_text reply.now.body) close) }
 {

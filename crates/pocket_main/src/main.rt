@@ -5,6 +5,7 @@ use pocket::{RunEnd, run_plain, sample_rows};
 use pocket_keeper::MemoryKeeper;
 use pocket_wire::{HostClock, HostDice, HostSink, HostSource};
 use std::alloc::{AllocError, Global};
+use std::io::ErrorKind;
 use std::process::ExitCode;
 use std::random::RandomSource;
 use std::rt::{Clock, Env};
@@ -28,8 +29,10 @@ fn sample_keeper(alloc: Global) -> Result<MemoryKeeper, AllocError> {
 
 /// Runs the program over the host's streams.
 fn run(rt: &HostRuntime) -> RunEnd {
-    let Ok(words) = read_words(rt) else {
-        return RunEnd::Words;
+    let words = match read_words(rt) {
+        Ok(words) => words,
+        Err(fault) if fault.kind() == ErrorKind::OutOfMemory => return RunEnd::Memory,
+        Err(_) => return RunEnd::Words,
     };
     let alloc = rt.alloc();
     let Ok(mut keeper) = sample_keeper(alloc) else {

@@ -12,10 +12,9 @@ use std::mem;
 
 /// Reads the source to its end, or until there are more bytes than a request of the built form has.
 fn fill<S: Source>(bytes: &mut Vec<u8>, source: &mut S) -> Result<(), WireFault>
-    ensures got { (got : List ℕ) × Consumes (S.left source.old) (S.left source.new) got
+    ensures got { (got : List ℕ) × Consumes (S.left source.old) (S.left source.new) got × IsBounded got result
         × OnOk result (bytes.new.items ≡ bytes.old.items ++ got) }
     ensures whole { OnOk result (IsWholeInput bytes.new.items (S.left source.new)) }
-    ensures bounded { (got : List ℕ) × Consumes (S.left source.old) (S.left source.new) got × IsBounded got result }
     ensures fault { IsErrOf result WireFault.SourceFault → Rose (S.faults source.old) (S.faults source.new) }
     ensures count { S.faults source.old ≤ S.faults source.new }
     ensures untold { StaysUntold (S.left source.old) (S.left source.new) }
@@ -58,9 +57,8 @@ pub fn next_request<S: Source>(
     inbox: &mut Inbox,
     source: &mut S,
 ) -> Result<Next, WireFault>
-    ensures next { (got : List ℕ) × Consumes (S.left source.old) (S.left source.new) got
+    ensures next { (got : List ℕ) × Consumes (S.left source.old) (S.left source.new) got × IsBounded got result
         × IfOk result (IsNext (inbox.old.left ++ got) (S.left source.new) inbox.new.left) }
-    ensures bounded { (got : List ℕ) × Consumes (S.left source.old) (S.left source.new) got × IsBounded got result }
     ensures fault { IsErrOf result WireFault.SourceFault → Rose (S.faults source.old) (S.faults source.new) }
     ensures count { S.faults source.old ≤ S.faults source.new }
     ensures untold { StaysUntold (S.left source.old) (S.left source.new) }
