@@ -2,6 +2,6 @@
 #![tactic(auto)]
 
 #[cfg(test)]
-mod core;
+mod machine;
 #[cfg(test)]
-mod pocket;
+mod runs;
