@@ -1,12 +1,12 @@
 -- What the folds over a tree give, a level at a time.
-use Rattle.std.proofs.Common.{◌≡◌, ◌&&◌, ℕ, suc, ℤ, List, [], ◌∷◌, Bool, true, map, ◌^◌, nat_lt, refl, ap, ◌∙◌}
+use Rattle.std.proofs.Common.{◌≡◌, ◌&&◌, ℕ, suc, List, [], ◌∷◌, Bool, map, refl, ap, ◌∙◌}
 use Rattle.std.specs.List.{list_all}
 use Rattle.pocket_types.specs.declared.json.Jv.{Jv}
 use Rattle.pocket_types.specs.declared.json.Jv.TheFolds.{fold-roll-Jv, fold-roll-Member}
 use Rattle.pocket_types.specs.declared.json.Jv.TheOpen as jv
 use Rattle.pocket_types.specs.declared.json.Jv.TheViews.{roll-Jv}
-use Rattle.pocket_types.specs.declared.json.Member.{Member, fold-Member}
-use Rattle.pocket_json.specs.Profile.{rise, rising_step, rising_member, keys_rise, size_of, small_step, small_member, numbers_small, greatest, levels_step, levels_member, levels}
+use Rattle.pocket_types.specs.declared.json.Member.{fold-Member}
+use Rattle.pocket_json.specs.Profile.{rise, rising_step, rising_member, keys_rise, small_step, small_member, numbers_small, greatest, levels_step, levels_member, levels}
 use Rattle.pocket_json.specs.Reading.{member_of, map_of}
 
 abbrev pub Entries : Type 0

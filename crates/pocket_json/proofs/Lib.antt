@@ -1,3 +1,6 @@
-pub mod Profiles
-pub mod Steps
 pub mod Layers
+pub mod Numerals
+pub mod Outlines
+pub mod Profiles
+pub mod RoundTrips
+pub mod Steps

@@ -2,7 +2,6 @@
 use Rattle.std.proofs.Common.{◌≡◌, ◌≤◌, ◌^◌, ◌&&◌, ℕ, zero, suc, max, ℤ, pos, neg_ℤ, List, [], ◌∷◌, Bool, true, false, map, drop, nat_lt, if◌then◌else◌, Option, Some, None, option_map, option_and_then, refl, sym, ap, ◌∙◌, arith, subst, slice_index, ◌==◌}
 use Rattle.std.specs.Bool.{⊤}
 use Rattle.std.specs.List.{list_all}
-use Rattle.std.specs.BTreeMap.{insert_entry}
 use Rattle.std.specs.Ordering.{nat_cmp, match_ordering}
 use Rattle.std.specs.Cmp.Lexicographic.{slice_cmp}
 use Rattle.std.specs.declared.cmp.Ordering.{Ordering}
@@ -15,8 +14,8 @@ use Rattle.json.specs.Token.{Token}
 use Rattle.json.specs.Tree.{depth, items_depth, members_depth}
 use Rattle.json.proofs.Nesting.{value-depth}
 use Rattle.serde_json.specs.Read.{is_integer}
-use Rattle.pocket_types.specs.Order.{IsBefore, is_before}
-use Rattle.pocket_types.proofs.OrderLemmas.{is_before_from, before_from_after, before_from}
+use Rattle.pocket_types.specs.Order.{is_before}
+use Rattle.pocket_types.proofs.OrderLemmas.{is_before_from, before_from_after}
 use Rattle.pocket_types.specs.declared.json.Jv.{Jv}
 use Rattle.pocket_types.specs.declared.json.Jv.TheOpen as jv
 use Rattle.pocket_types.specs.declared.json.Jv.TheViews.{roll-Jv}

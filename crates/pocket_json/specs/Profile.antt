@@ -5,7 +5,7 @@ use Rattle.pocket_types.specs.Order.{is_before}
 use Rattle.pocket_types.specs.declared.json.Jv.{Jv, fold-Jv}
 use Rattle.pocket_types.specs.declared.json.Jv.TheOpen as jv
 use Rattle.pocket_types.specs.declared.json.Jv.TheOpen.{Jv-F, Member-F}
-use Rattle.pocket_types.specs.declared.json.Member.{Member}
+use Rattle.pocket_json.specs.Reading.{max_levels}
 
 -- ---- keys
 
@@ -79,8 +79,8 @@ levels_member m = m.value
 abbrev pub levels : Jv → ℕ
 levels = fold-Jv ℕ ℕ levels_step levels_member
 
--- a tree with rising keys, small numbers and at most 32 levels
+-- a tree whose keys rise, whose numbers are small, and which has no more levels than JSON of the profile
 pub record IsProfiled (tree : Jv) : Type 0 where
   pub keys : IsTrue (keys_rise tree)
   pub numbers : IsTrue (numbers_small tree)
-  pub depth : levels tree ≤ 32
+  pub depth : levels tree ≤ max_levels

@@ -7,4 +7,4 @@ mod numbers;
 mod read;
 
 pub use faults::JsonFault;
-pub use read::read_jv;
+pub use read::{printed_tree_is_read, read_jv};

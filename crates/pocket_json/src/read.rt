@@ -1,5 +1,6 @@
 ghost use Rattle.std.specs.Prelude.{◌≡◌, Some, None, Err, IfOk};
 ghost use Rattle.json.specs.Value.{value_view};
+ghost use Rattle.pocket_types.specs.Json.{printed};
 ghost use Rattle.pocket_types.specs.declared.json.Jv.{Jv};
 ghost use Rattle.pocket_json.specs.Profile.{IsProfiled};
 ghost use Rattle.pocket_json.specs.Reading.{document, read as read_of, IsJson};
@@ -24,6 +25,14 @@ pub fn read_jv(alloc: Global, bytes: &[u8]) -> Result<Jv, JsonFault>
         Err(_) => Err(JsonFault::BadJson),
     }
 }
+
+/// The law of printing and reading: where a tree is as `read_jv` gives them, its compact text is JSON of the profile, and
+/// its tree is this one. The text is that of `Jv::print`, borrowed.
+pub fn printed_tree_is_read(tree: &Jv, text: &str)
+    requires tree { IsProfiled tree.now }
+    requires text { text.now ≡ printed tree.now }
+    ensures { IsJson text.now tree.now }
+{}
 
 fn read_text(alloc: Global, text: &str) -> Result<Jv, JsonFault>
     ensures ok { IfOk result (λ tree. read_of text.now ≡ Some tree) }
