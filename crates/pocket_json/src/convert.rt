@@ -1,0 +1,72 @@
+// Values of the grammar as trees.
+ghost use Rattle.std.specs.Prelude.{◌≡◌, Some, None, Err, [], IfOk};
+ghost use Rattle.json.specs.Value.{value_view, items_view, members_view};
+ghost use Rattle.pocket_json.specs.Reading.{tree_of, trees_of, entries_of, map_of};
+
+use crate::faults::JsonFault;
+use crate::numbers::whole;
+use json::Value;
+use pocket_types::{Jv, Member, Seq, Text};
+use std::alloc::{AllocError, Global};
+use std::collections::BTreeMap;
+
+/// The tree of a value, whose numbers must be of the profile.
+#[cycle(tree)]
+pub fn tree(alloc: Global, value: &Value<'_>) -> Result<Jv, JsonFault>
+    ensures ok { IfOk result (λ tree. tree_of (value_view value.now) ≡ Some tree) }
+    ensures bad { result ≡ Err JsonFault.BadJson → tree_of (value_view value.now) ≡ None }
+{
+    match value {
+        Value::Null => Ok(Jv::Null),
+        Value::Bool(b) => Ok(Jv::Flag(*b)),
+        Value::Number(text) => match whole(text) {
+            Some(n) => Ok(Jv::Num(n)),
+            None => Err(JsonFault::BadJson),
+        },
+        Value::String(text) => Ok(Jv::Text(Text::from_str(alloc, text)?)),
+        Value::Array(items) => Ok(Jv::List(Seq::from_vec(trees(alloc, items)?))),
+        Value::Object(members) => Ok(map_jv(alloc, entries(alloc, members)?)?),
+    }
+}
+
+#[cycle(tree)]
+fn trees(alloc: Global, items: &Vec<Value<'_>>) -> Result<Vec<Jv>, JsonFault>
+    ensures ok { IfOk result
+        (λ found. trees_of (items_view items.now.items) ≡ Some found.items) }
+    ensures bad { result ≡ Err JsonFault.BadJson
+        → trees_of (items_view items.now.items) ≡ None }
+{
+    let mut found = Vec::new(alloc);
+    for item in items {
+        let value = tree(alloc, item)?;
+        found.push(value)?;
+    }
+    Ok(found)
+}
+
+#[cycle(tree)]
+fn entries(alloc: Global, members: &Vec<(&str, Value<'_>)>) -> Result<BTreeMap<Text, Jv>, JsonFault>
+    ensures ok { IfOk result
+        (λ found. entries_of (members_view members.now.items) [] ≡ Some found.entries) }
+    ensures bad { result ≡ Err JsonFault.BadJson
+        → entries_of (members_view members.now.items) [] ≡ None }
+{
+    let mut found = BTreeMap::new(alloc);
+    for member in members {
+        let key = Text::from_str(alloc, member.0)?;
+        let value = tree(alloc, &member.1)?;
+        drop(found.insert(key, value)?);
+    }
+    Ok(found)
+}
+
+/// A map of entries.
+fn map_jv(alloc: Global, entries: BTreeMap<Text, Jv>) -> Result<Jv, AllocError>
+    ensures { IfOk result (λ tree. tree ≡ map_of entries.entries) }
+{
+    let mut members = Vec::new(alloc);
+    for (key, value) in entries {
+        members.push(Member { key, value })?;
+    }
+    Ok(Jv::Map(Seq::from_vec(members)))
+}
