@@ -1,8 +1,5 @@
 -- Reading a list or a map, an item at a time.
 use Rattle.std.proofs.Common.{◌≡◌, ℕ, List, [], ◌∷◌, ◌++◌, Option, Some, None, option_map, append_assoc, refl, sym, ap}
-use Rattle.std.specs.BTreeMap.{insert_entry}
-use Rattle.std.specs.Cmp.Lexicographic.{slice_cmp}
-use Rattle.std.specs.Ordering.{nat_cmp}
 use Rattle.json.specs.Json as json
 use Rattle.pocket_types.specs.declared.json.Jv.{Jv}
 use Rattle.pocket_json.specs.Reading.{put, tree_of, trees_of, entries_of}
@@ -24,7 +21,3 @@ member_read key v j ms old e = rw e
 
 pub member_refused : (key : List ℕ) (j : json.Json) (ms : json.Members) (old : List (List ℕ × Jv)) → tree_of j ≡ None → entries_of (json.member key j ms) old ≡ None
 member_refused key j ms old e = rw e
-
-pub put_is : (key : List ℕ) (v : Jv) (es : List (List ℕ × Jv)) → insert_entry (slice_cmp nat_cmp) es key v ≡ put key v es
-unfolding put
-put_is key v es = refl

@@ -1,7 +1,7 @@
 // Values of the grammar as trees.
-ghost use Rattle.std.specs.Prelude.{◌≡◌, Some, None, Err, [], IfOk};
+ghost use Rattle.std.specs.Prelude.{◌≡◌, Some, None, Err, [], IfOk, OnOk};
 ghost use Rattle.json.specs.Value.{value_view, items_view, members_view};
-ghost use Rattle.pocket_json.specs.Reading.{tree_of, trees_of, entries_of, map_of};
+ghost use Rattle.pocket_json.specs.Reading.{tree_of, trees_of, entries_of, map_of, put};
 
 use crate::faults::JsonFault;
 use crate::numbers::whole;
@@ -55,9 +55,18 @@ fn entries(alloc: Global, members: &Vec<(&str, Value<'_>)>) -> Result<BTreeMap<T
     for member in members {
         let key = Text::from_str(alloc, member.0)?;
         let value = tree(alloc, &member.1)?;
-        drop(found.insert(key, value)?);
+        put(&mut found, key, value)?;
     }
     Ok(found)
+}
+
+/// Puts an entry among those found; of equal keys the later value counts.
+#[tactic(auto, unfolding(crate::specs::Reading::put))]
+fn put(found: &mut BTreeMap<Text, Jv>, key: Text, value: Jv) -> Result<(), AllocError>
+    ensures { OnOk result (found.new.entries ≡ put key value found.old.entries) }
+{
+    drop(found.insert(key, value)?);
+    Ok(())
 }
 
 /// A map of entries.

@@ -2,7 +2,7 @@ use Rattle.std.proofs.Common.{◌≡◌, Some, None, ◌+◌, drop, [], ◌∷�
 use Rattle.std.proofs.lemmas.List.{drop_more, drop_all}
 use Rattle.json.specs.Value.{value_view, items_view, members_view}
 use Rattle.pocket_json.specs.Reading.{tree_of, trees_of, entries_of, put}
-use Rattle.pocket_json.proofs.Steps.{item_read, item_refused, member_read, member_refused, put_is}
+use Rattle.pocket_json.proofs.Steps.{item_read, item_refused, member_read, member_refused}
 use Rattle.pocket_json.proofs.convert.+tree.Goals as goal
 
 pub trees-loop-item-preserved : goal.trees-loop-item-preserved
@@ -49,8 +49,8 @@ entries-loop-member-preserved t c =
     let good : tree_of (value_view x.1) ≡ Some v = grind arith in
     let copied : c.in_ok-key.key ≡ x.0.now = search rules in
     let old = l.found.entries in
-    let inserted : c.insert.new.self.entries ≡ put x.0.now v old =
-    c.in_ok-insert.ensures.entries ∙ put_is c.in_ok-key.key v old ∙ ap (λ k. put k v old) copied in
+    let added : c.put.new.found.entries ≡ put c.in_ok-key.key v old = search rules in
+    let inserted : c.put.new.found.entries ≡ put x.0.now v old = added ∙ ap (λ k. put k v old) copied in
     l.invariant ∙ ap (λ ys. entries_of (members_view ys) old) here
     ∙ member_read x.0.now v (value_view x.1) (members_view rest) old good
     ∙ ap (entries_of (members_view rest)) (sym inserted)

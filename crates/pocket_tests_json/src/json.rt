@@ -227,9 +227,7 @@ fn spelled(alloc: Global, text: &str) -> Result<String, AllocError> {
 #[test]
 fn bytes_are_read_or_refused(rt: HostRuntime) -> Result<(), Fail> {
     let alloc = rt.alloc();
-    let mut last = "";
     for line in cases().lines() {
-        last = line;
         if let Some((bytes, text)) = line.split_once(" => ") {
             let bytes = spelled(alloc, bytes)?;
             let text = spelled(alloc, text)?;
@@ -237,7 +235,6 @@ fn bytes_are_read_or_refused(rt: HostRuntime) -> Result<(), Fail> {
             assert_eq!(rt; found.as_str(), text.as_str(), "{line}");
         }
     }
-    assert!(rt; last.ends_with("\"a.b\":1}"));
     Ok(())
 }
 
