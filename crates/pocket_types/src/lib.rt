@@ -1,8 +1,11 @@
-//! Names, values, records and worlds: the values that every other crate speaks of, and the compact text of JSON trees.
+//! Names, values, records, worlds and filters: the values that every other crate speaks of, and the compact text of JSON trees.
 #![tactic(auto)]
 
+mod boxed;
 mod exact;
+mod expr;
 mod failed;
+mod faults;
 mod ids;
 mod json;
 mod moments;
@@ -10,20 +13,27 @@ mod names;
 mod print;
 mod records;
 mod requests;
+mod resolved;
 mod seq;
 mod steps;
 mod text;
+mod values;
 mod world;
 
+pub use boxed::Boxed;
 pub use exact::{Exact, Faithful, is_same};
+pub use expr::{Expr, Op, Operand, Part};
 pub use failed::Failed;
+pub use faults::{FilterFault, ResolveFault};
 pub use ids::Id;
 pub use json::{Jv, Member};
 pub use moments::Moment;
 pub use names::{Name, NameFault};
 pub use records::{Cell, Collection, Field, Kind, Rec, Rule};
-pub use requests::{Action, Caller, Method, Pair};
+pub use requests::{Action, Ask, Caller, Context, Method, Pair, Sent};
+pub use resolved::{Leaf, Macro, Modifier, Prefix, Resolved, Root, Step};
 pub use seq::Seq;
 pub use steps::Steps;
 pub use text::Text;
+pub use values::Value;
 pub use world::{Shelf, World};

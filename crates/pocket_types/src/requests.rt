@@ -1,5 +1,8 @@
 use crate::ids::Id;
+use crate::moments::Moment;
 use crate::names::Name;
+use crate::records::Cell;
+use crate::seq::Seq;
 use crate::text::Text;
 
 /// Who sent a request.
@@ -23,11 +26,37 @@ pub enum Method {
     Delete,
 }
 
+/// Whether a rule is judged for a reply or for a message to a subscriber.
+#[derive(Clone, Copy, Debug, PartialEq, Eq)]
+pub enum Context {
+    Default,
+    Realtime,
+}
+
 /// A name with its value: a header, or a part of a query.
 #[derive(Debug, Drop)]
 pub struct Pair {
     pub name: Text,
     pub value: Text,
+}
+
+/// A field that was sent, with the cell that it will have.
+#[derive(Drop)]
+pub struct Sent {
+    pub field: Name,
+    pub cell: Cell,
+}
+
+/// What a rule sees of a request. Each field is sent at most once.
+#[derive(Drop)]
+pub struct Ask {
+    pub caller: Caller,
+    pub method: Method,
+    pub context: Context,
+    pub headers: Seq<Pair>,
+    pub query: Seq<Pair>,
+    pub body: Seq<Sent>,
+    pub moment: Moment,
 }
 
 /// What is done with records, each under a rule of its own.
