@@ -1,6 +1,8 @@
 // Copies and comparisons that contracts can rely on.
-ghost use Rattle.std.specs.Prelude.{◌≡◌, ◌↔◌, IsTrue};
+ghost use Rattle.std.specs.Prelude.{◌≡◌, ◌↔◌, IfOk, IsTrue};
 ghost use Rattle.std.specs.Bool.{Decides};
+
+use std::alloc::AllocError;
 
 /// Types whose `clone` gives the same value.
 pub trait Faithful: Clone {
@@ -10,6 +12,13 @@ pub trait Faithful: Clone {
 /// Types whose `==` tells whether two values are the same.
 pub trait Exact: PartialEq {
     ghost eq_is_same: { (a b : Self) → Decides (Self.eq a b) (a ≡ b) };
+}
+
+/// A copy, the same value.
+pub fn copied<T: Faithful>(value: &T) -> Result<T, AllocError>
+    ensures { IfOk result (λ copy. copy ≡ value.now) }
+{
+    value.clone()
 }
 
 /// Whether the two are the same value.

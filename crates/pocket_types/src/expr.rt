@@ -29,10 +29,7 @@ pub struct Part {
 #[derive(Clone, Debug, Drop)]
 pub enum Operand {
     /// A path. With `sign` it begins with `@`.
-    Ident {
-        sign: bool,
-        parts: Seq<Part>,
-    },
+    Ident { sign: bool, parts: Seq<Part> },
     Text(Text),
     Num(i64),
     Flag(bool),

@@ -10,6 +10,7 @@ mod ids;
 mod json;
 mod moments;
 mod names;
+mod paths;
 mod print;
 mod records;
 mod requests;
@@ -21,7 +22,7 @@ mod values;
 mod world;
 
 pub use boxed::Boxed;
-pub use exact::{Exact, Faithful, is_same};
+pub use exact::{Exact, Faithful, copied, is_same};
 pub use expr::{Expr, Op, Operand, Part};
 pub use failed::Failed;
 pub use faults::{FilterFault, ResolveFault};
