@@ -1,6 +1,7 @@
 pub mod Causes
 pub mod Inductions
 pub mod Json
+pub mod Kinds
 pub mod Names
 pub mod Order
 pub mod Paths

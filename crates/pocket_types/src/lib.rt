@@ -8,6 +8,7 @@ mod failed;
 mod faults;
 mod ids;
 mod json;
+mod kinds;
 mod moments;
 mod names;
 mod paths;
