@@ -12,7 +12,7 @@ use Rattle.pocket_types.specs.declared.requests.Caller.{Caller}
 use Rattle.pocket_types.specs.declared.requests.Caller.TheVariants as caller
 use Rattle.pocket_types.specs.declared.world.Shelf.{Shelf}
 use Rattle.pocket_types.specs.declared.world.World.{World}
-use Rattle.pocket_keeper.specs.Texts.{rec_jv}
+use Rattle.pocket_ops.specs.Trees.{rec_jv}
 use Rattle.pocket_core.specs.declared.reply.Reply.{Reply}
 use Rattle.pocket_core.specs.declared.reply.ReplyBody.TheVariants as reply_body
 use Rattle.pocket_core.specs.declared.reply.Why.{Why}

@@ -2,12 +2,10 @@ ghost use Rattle.std.specs.Prelude.{◌≡◌, ◌<◌, ◌^◌, IfOk, IsTrue, �
 ghost use Rattle.std.specs.Option.{option_copied};
 ghost use Rattle.pocket_types.specs.World.{rec_of, shelf_named};
 ghost use Rattle.pocket_core.specs.Answers.{IsAnswer, call_answer, forbidden, is_admin, is_locked, keeps_out, not_found, rec_answer, shown, view_answer};
-ghost use Rattle.pocket_core.specs.Opening.{IsPlainShelf, IsPlainWorld};
-ghost use Rattle.pocket_keeper.specs.Plain.{IsPlainCollection, IsPlainRec};
 
 use crate::reply::{Reply, ReplyBody, Why};
 use crate::work::{Call, Target};
-use pocket_keeper::rec_jv;
+use pocket_ops::rec_jv;
 use pocket_types::{Action, Caller, Collection, Rec, Rule, Shelf, Text, World};
 use std::alloc::{AllocError, Global};
 
@@ -81,8 +79,6 @@ fn show(
     rec: &Rec,
     at: u64,
 ) -> Result<Reply, AllocError>
-    requires collection { IsPlainCollection collection.now }
-    requires rec { IsPlainRec rec.now }
     ensures { IfOk result (IsAnswer (rec_answer caller.now collection.now (Some rec.now) at)) }
 {
     let tree = rec_jv(alloc, collection, rec, is_admin_caller(caller))?;
@@ -103,7 +99,6 @@ fn answer_view(
     target: &Target,
     at: u64,
 ) -> Result<Reply, AllocError>
-    requires { IsPlainWorld world.now }
     ensures { IfOk result (IsAnswer (view_answer caller.now (shelf_named target.now.collection world.now.shelves) target.now.id at)) }
 {
     let Some(shelf) = find_shelf(world, target.collection.as_str()) else {
@@ -127,7 +122,6 @@ pub(crate) fn answer_call(
     call: &Call,
     at: u64,
 ) -> Result<Reply, AllocError>
-    requires { IsPlainWorld world.now }
     ensures { IfOk result (IsAnswer (call_answer world.now caller.now call.now at)) }
 {
     match call {

@@ -1,6 +1,7 @@
 pub mod EscapeForms
 pub mod KeepingLemmas
 pub mod PlaceLemmas
+pub mod PlainDates
 pub mod PlainForms
 pub mod PlainRecs
 pub mod PlainRows

@@ -17,12 +17,16 @@ use Rattle.pocket_types.specs.declared.records.Rec.{Rec}
 use Rattle.pocket_types.specs.Names.{is_name, is_id}
 use Rattle.pocket_types.specs.Json.{printed, quoted, escape_byte}
 use Rattle.pocket_keeper.specs.declared.rows.KeptRow.{KeptRow}
-use Rattle.pocket_keeper.specs.Dates.{date_text, plain_moment, date_text_of_plain}
+use Rattle.pocket_ops.specs.Dates.{date_text}
+use Rattle.pocket_ops.specs.Trees.{put, put_cells, text_jv, map_jv, rec_members}
+use Rattle.pocket_keeper.specs.Dates.{plain_moment}
+use Rattle.pocket_keeper.proofs.PlainDates.{date_text_of_plain}
 use Rattle.pocket_keeper.specs.Parts.{before_field, behind_field, to_created, to_updated, plain_field, plain_rec, plain_rec_text}
 use Rattle.pocket_keeper.specs.Plain.{IsPlainField, HasPlainCell, IsPlainRec, LacksRec, is_reserved}
-use Rattle.pocket_keeper.specs.Texts.{put, put_cells, text_jv, map_jv, rec_members, rec_row, rec_key}
+use Rattle.pocket_keeper.specs.Texts.{rec_row, rec_key}
 use Rattle.pocket_keeper.proofs.PlainForms.{field_form}
-use Rattle.pocket_keeper.proofs.Printing.{pair_text, joined, printed_joined, printed_text, quoted_name, name_behind}
+use Rattle.pocket_ops.specs.Printing.{pair_text, printed_text}
+use Rattle.pocket_keeper.proofs.Printing.{joined, printed_joined, quoted_name, name_behind}
 
 cells_form : (cells : List Cell) → HasPlainCell cells → (t : List ℕ) × (cells ≡ cell.Text t ∷ []) × IsUtf8 t
 cells_form (cell.Text t ∷ []) h = (t, refl, h)

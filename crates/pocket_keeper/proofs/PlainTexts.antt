@@ -3,8 +3,9 @@ use Rattle.std.proofs.Common.{◌≡◌, ℕ, List, [], ◌∷◌, ◌++◌, Boo
 use Rattle.pocket_types.specs.Names.{is_name}
 use Rattle.pocket_types.specs.Json.{printed, escape_byte}
 use Rattle.pocket_keeper.specs.Parts.{rule_of, rule_text, create_key, delete_key, fields_key, list_key, name_key, update_key, view_key, plain_field, plain_collection, plain_text}
-use Rattle.pocket_keeper.specs.Texts.{text_jv, flag_jv, num_jv, list_jv, rule_jv, field_jv, collection_jv, collection_members, field_members}
-use Rattle.pocket_keeper.proofs.Printing.{pair_text, joined, printed_joined, printed_list, printed_text, printed_false, printed_5000, printed_0, printed_rule, quoted_name, name_behind}
+use Rattle.pocket_ops.specs.Trees.{text_jv, flag_jv, num_jv, list_jv, rule_jv, field_jv, collection_jv, collection_members, field_members}
+use Rattle.pocket_ops.specs.Printing.{pair_text, printed_list, printed_text}
+use Rattle.pocket_keeper.proofs.Printing.{joined, printed_joined, printed_false, printed_5000, printed_0, printed_rule, quoted_name, name_behind}
 
 -- the text of a field, of the texts of its values
 abbrev field_shape : List ℕ → List ℕ → List ℕ → List ℕ → List ℕ → List ℕ → List ℕ → List ℕ

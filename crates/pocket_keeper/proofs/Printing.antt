@@ -1,47 +1,17 @@
 -- The texts of trees.
-use Rattle.std.proofs.Common.{◌≡◌, ◌≢◌, ◌&&◌, zero, suc, IsTrue, flat_map, arith, ℕ, List, [], ◌∷◌, ◌++◌, Bool, true, false, map, codes, ℤ, pos, append_assoc, refl, ap, ◌∙◌}
-use Rattle.std.specs.Fmt.{digits, signed_decimal}
+use Rattle.std.proofs.Common.{◌≡◌, ◌≢◌, ◌&&◌, zero, suc, IsTrue, flat_map, arith, ℕ, List, [], ◌∷◌, ◌++◌, Bool, true, false, map, codes, pos, append_assoc, refl, ap, ◌∙◌}
+use Rattle.std.specs.Fmt.{digits}
 use Rattle.std.specs.List.{join_with_byte, list_all}
 use Rattle.pocket_types.specs.declared.json.Jv.{Jv}
-use Rattle.pocket_types.specs.declared.json.Jv.TheFolds.{fold-roll-Jv, fold-roll-Member}
-use Rattle.pocket_types.specs.declared.json.Jv.TheOpen as jv
-use Rattle.pocket_types.specs.Json.{printed, printed_member, quoted, value_text, member_text, escape_byte}
-use Rattle.pocket_keeper.specs.Texts.{text_jv, null_jv, flag_jv, num_jv, list_jv, map_jv, member_of, rule_jv}
+use Rattle.pocket_types.specs.Json.{printed, quoted, escape_byte}
+use Rattle.pocket_ops.specs.Printing.{pair_text, printed_text, printed_null, printed_flag, printed_num, printed_map}
+use Rattle.pocket_ops.specs.Trees.{flag_jv, num_jv, map_jv, rule_jv}
 use Rattle.pocket_keeper.specs.Parts.{HasNoByte, rule_of, rule_text}
 use Rattle.pocket_types.specs.Names.{is_name, is_word}
 use Rattle.std.proofs.lemmas.Bool.Decides.{nat_tests}
 
-pub printed_text : (t : List ℕ) → printed (text_jv t) ≡ quoted t
-printed_text t = fold-roll-Jv (List ℕ) (List ℕ) value_text member_text (jv.Text t)
-
-pub printed_null : printed null_jv ≡ codes "null"
-printed_null = fold-roll-Jv (List ℕ) (List ℕ) value_text member_text jv.Null
-
 pub printed_false : printed (flag_jv false) ≡ codes "false"
-printed_false = fold-roll-Jv (List ℕ) (List ℕ) value_text member_text (jv.Flag false)
-
-pub printed_num : (n : ℤ) → printed (num_jv n) ≡ signed_decimal n
-printed_num n = fold-roll-Jv (List ℕ) (List ℕ) value_text member_text (jv.Num n)
-
-pub printed_list : (vs : List Jv) → printed (list_jv vs) ≡ 91 ∷ join_with_byte 44 (map printed vs) ++ 93 ∷ []
-printed_list vs = fold-roll-Jv (List ℕ) (List ℕ) value_text member_text (jv.List vs)
-
-pub printed_map : (ms : List (List ℕ × Jv)) → printed (map_jv ms) ≡ 123 ∷ join_with_byte 44 (map printed_member (map member_of ms)) ++ 125 ∷ []
-printed_map ms = fold-roll-Jv (List ℕ) (List ℕ) value_text member_text (jv.Map (map member_of ms))
-
-pub printed_pair : (key : List ℕ) (v : Jv) → printed_member (member_of (key, v)) ≡ quoted key ++ 58 ∷ printed v
-printed_pair key v = fold-roll-Member (List ℕ) (List ℕ) value_text member_text (record { key = key; value = v })
-
--- a member's text
-abbrev pub pair_text : List ℕ × Jv → List ℕ
-pair_text m = quoted m.0 ++ 58 ∷ printed m.1
-
-pub printed_pairs : (ms : List (List ℕ × Jv)) → map printed_member (map member_of ms) ≡ map pair_text ms
-printed_pairs [] = refl
-printed_pairs (m ∷ ms) = rw (printed_pair m.0 m.1, printed_pairs ms) refl
-
-pub printed_members : (ms : List (List ℕ × Jv)) → printed (map_jv ms) ≡ 123 ∷ join_with_byte 44 (map pair_text ms) ++ 125 ∷ []
-printed_members ms = printed_map ms ∙ ap (λ ts. 123 ∷ join_with_byte 44 ts ++ 125 ∷ []) (printed_pairs ms)
+printed_false = printed_flag false
 
 -- items with commas between them, and then the rest
 abbrev pub joined : List (List ℕ) → List ℕ → List ℕ
@@ -55,7 +25,7 @@ join_joined (x ∷ []) rest = refl
 join_joined (x ∷ y ∷ ys) rest = append_assoc x (44 ∷ join_with_byte 44 (y ∷ ys)) rest ∙ ap (λ t. x ++ (44 ∷ t)) (join_joined (y ∷ ys) rest)
 
 pub printed_joined : (ms : List (List ℕ × Jv)) → printed (map_jv ms) ≡ 123 ∷ joined (map pair_text ms) (125 ∷ [])
-printed_joined ms = printed_members ms ∙ ap (λ t. 123 ∷ t) (join_joined (map pair_text ms) (125 ∷ []))
+printed_joined ms = printed_map ms ∙ ap (λ t. 123 ∷ t) (join_joined (map pair_text ms) (125 ∷ []))
 
 pub printed_5000 : printed (num_jv (pos 5000)) ≡ codes "5000"
 unfolding digits

@@ -1,5 +1,5 @@
 ghost use Rattle.std.specs.Prelude.{◌≡◌};
-ghost use Rattle.pocket_keeper.specs.Dates.{date_text, plain_moment};
+ghost use Rattle.pocket_keeper.specs.Dates.{plain_moment};
 
 use pocket_types::Moment;
 
@@ -11,11 +11,4 @@ pub fn plain_moment() -> Moment
         Some(moment) => moment,
         None => unreachable!(),
     }
-}
-
-/// The text of that moment.
-pub fn plain_date() -> &'static str
-    ensures { result.now ≡ date_text plain_moment }
-{
-    "2024-01-01 00:00:00.000Z"
 }

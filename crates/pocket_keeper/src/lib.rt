@@ -10,9 +10,11 @@ mod plain;
 mod rows;
 mod sorted;
 mod texts;
+mod tokens;
 
 pub use keeper::{Committer, Keeper};
 pub use memory::MemoryKeeper;
 pub use plain::{read_collection, read_rec, rec_key};
 pub use rows::{KeepFault, KeptRow};
-pub use texts::{collection_jv, rec_jv, row_of_collection, row_of_rec};
+pub use texts::{row_of_collection, row_of_rec, row_of_token};
+pub use tokens::Token;

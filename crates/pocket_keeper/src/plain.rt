@@ -3,14 +3,14 @@ ghost use Rattle.std.specs.Prelude.{◌≡◌, ◌≢◌, ℕ, List, Bool, false
 ghost use Rattle.pocket_types.specs.Names.{is_name, is_id};
 ghost use Rattle.pocket_types.specs.Json.{escape_byte};
 ghost use Rattle.pocket_keeper.specs.Parts.{HasNoByte, rule_of, plain_text, plain_field, plain_collection, plain_rec, plain_rec_text, before_field, behind_field, to_created, to_updated};
-ghost use Rattle.pocket_keeper.specs.Plain.{IsPlainCollection, IsPlainRec, IsFieldName, is_reserved, LacksCollection, HoldsCollection, LacksRec, HoldsRec};
+ghost use Rattle.pocket_keeper.specs.Plain.{IsPlainCollection, IsPlainField, HasPlainField, IsPlainRec, IsFieldName, is_reserved, LacksCollection, HoldsCollection, LacksRec, HoldsRec};
 ghost use Rattle.pocket_keeper.specs.Texts.{rec_key, rec_row};
 
 use crate::dates::plain_moment;
 use crate::escapes::unescaped;
 use crate::parts::{after, back_of, before, front_of, middle_of, word_after};
 use crate::rows::KeptRow;
-use crate::texts::{plain_field as only_field, row_of_rec};
+use crate::texts::row_of_rec;
 use pocket_types::{Cell, Collection, Field, Id, Kind, Name, NameFault, Rec, Rule, Seq, Text};
 use std::alloc::{AllocError, Global};
 use std::cmp::Ordering;
@@ -138,7 +138,7 @@ fn collection_of(alloc: Global, parts: &Parts<'_>) -> Result<Option<Collection>,
     Ok(Some(plain_collection(alloc, name, field, parts)?))
 }
 
-/// The collection that a row keeps. None exactly where no collection that `row_of_collection` takes has this row.
+/// The collection that a row keeps. None exactly where no plain collection has this row.
 pub fn read_collection(alloc: Global, row: &KeptRow) -> Result<Option<Collection>, AllocError>
     ensures { IfOk result (λ found. MatchOption found (LacksCollection row.now) (λ c. HoldsCollection row.now c)) }
 {
@@ -253,6 +253,18 @@ fn plain_rec(alloc: Global, id: Id, text: Text) -> Result<Rec, AllocError>
     })
 }
 
+/// The field of a plain collection.
+fn only_field(fields: &[Field]) -> &Field
+    requires { HasPlainField fields.now }
+    ensures list { fields.now ≡ result.now ∷ [] }
+    ensures plain { IsPlainField result.now }
+{
+    match fields {
+        [field] => field,
+        _ => unreachable!(),
+    }
+}
+
 /// The one record that may have the row. None only where no record has it.
 fn candidate(
     alloc: Global,
@@ -277,7 +289,7 @@ fn candidate(
     Ok(Some(plain_rec(alloc, id, text)?))
 }
 
-/// The record of a collection that a row keeps. None exactly where no record that `row_of_rec` takes has this row.
+/// The record of a collection that a row keeps. None exactly where no plain record has this row.
 pub fn read_rec(
     alloc: Global,
     collection: &Collection,

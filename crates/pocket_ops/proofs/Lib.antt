@@ -1,7 +1,9 @@
 pub mod CalendarLemmas
 pub mod DigitLemmas
+pub mod LengthLemmas
 pub mod Matching
 pub mod Orders
 pub mod PrintedDates
 pub mod ReadDates
 pub mod Searches
+pub mod TreeLemmas

@@ -3,6 +3,9 @@ pub mod Cells
 pub mod Comparison
 pub mod Dates
 pub mod DateReading
+pub mod Lengths
 pub mod Likeness
 pub mod Macros
+pub mod Printing
 pub mod Searching
+pub mod Trees

@@ -1,28 +1,16 @@
 ghost use Rattle.std.specs.Prelude.{◌≡◌, ◌<◌, ◌^◌, IfOk, length};
 ghost use Rattle.pocket_types.specs.Json.{printed};
 ghost use Rattle.pocket_types.specs.declared.values.Value.TheVariants as value;
-ghost use Rattle.pocket_ops.specs.Dates.{date_text};
-ghost use Rattle.pocket_ops.specs.Cells.{items_of, texts_jv, items_value, date_value, tree_value, cell_value, count_value, lowered};
+ghost use Rattle.pocket_ops.specs.Cells.{items_of, items_value, date_value, tree_value, cell_value, count_value, lowered};
 
-use crate::date_texts::date_text;
-use pocket_types::{Cell, Field, Id, Jv, Moment, Seq, Text, Value};
+use crate::trees::{ids_jv, moment_text, texts_jv};
+use pocket_types::{Cell, Field, Id, Jv, Moment, Text, Value};
 use std::alloc::{AllocError, Global};
 
 fn text_value(alloc: Global, text: &str) -> Result<Value, AllocError>
     ensures { IfOk result (λ v. v ≡ value.Text text.now) }
 {
     Ok(Value::Text(Text::from_str(alloc, text)?))
-}
-
-/// The text of a moment.
-fn moment_text(alloc: Global, moment: Moment) -> Result<Text, AllocError>
-    ensures { IfOk result (λ t. t ≡ date_text moment) }
-{
-    let bytes = date_text(moment);
-    match std::str::from_utf8(&bytes) {
-        Ok(text) => Text::from_str(alloc, text),
-        Err(_) => unreachable!(),
-    }
 }
 
 fn date_value(alloc: Global, date: &Option<Moment>) -> Result<Value, AllocError>
@@ -32,26 +20,6 @@ fn date_value(alloc: Global, date: &Option<Moment>) -> Result<Value, AllocError>
         None => text_value(alloc, ""),
         Some(moment) => Ok(Value::Text(moment_text(alloc, *moment)?)),
     }
-}
-
-fn texts_jv(alloc: Global, texts: &[Text]) -> Result<Jv, AllocError>
-    ensures { IfOk result (λ tree. tree ≡ texts_jv texts.now) }
-{
-    let mut list = Seq::new(alloc);
-    for text in texts {
-        list.push(Jv::Text(text.clone()?))?;
-    }
-    Ok(Jv::List(list))
-}
-
-fn ids_jv(alloc: Global, ids: &[Id]) -> Result<Jv, AllocError>
-    ensures { IfOk result (λ tree. tree ≡ texts_jv ids.now) }
-{
-    let mut list = Seq::new(alloc);
-    for id in ids {
-        list.push(Jv::Text(Text::from_str(alloc, id.as_str())?))?;
-    }
-    Ok(Jv::List(list))
 }
 
 fn picks_value(alloc: Global, several: bool, picks: &[Text]) -> Result<Value, AllocError>

@@ -1,17 +1,28 @@
-//! What values are worth: comparison, likeness, the values of cells, dates and macros.
+//! What values are worth: comparison, likeness, the values of cells, dates and macros; and the JSON of cells, records
+//! and collections.
 #![tactic(auto)]
 
 mod calendar;
+mod cell_trees;
 mod cells;
+mod collection_trees;
 mod comparison;
+mod copies;
 mod date_reading;
 mod date_texts;
+mod lengths;
 mod likeness;
 mod macros;
+mod rec_trees;
+mod row_lengths;
+mod trees;
 
 pub use cells::{cell_value, count_value, item_count, lowered_value};
+pub use collection_trees::collection_jv;
 pub use comparison::compare;
 pub use date_reading::date_read;
 pub use date_texts::date_text;
 pub use likeness::like;
 pub use macros::macro_value;
+pub use rec_trees::{kept_jv, rec_jv};
+pub use row_lengths::{has_own_names, row_len};

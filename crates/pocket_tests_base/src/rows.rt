@@ -1,9 +1,8 @@
 ghost use Rattle.std.specs.Prelude.{IfOk, IfSome};
 ghost use Rattle.pocket_keeper.specs.Plain.{IsPlainCollection};
 
-use pocket_keeper::{
-    KeptRow, read_collection, read_rec, rec_jv, rec_key, row_of_collection, row_of_rec,
-};
+use pocket_keeper::{KeptRow, read_collection, read_rec, rec_key, row_of_collection, row_of_rec};
+use pocket_ops::rec_jv;
 use pocket_types::{Cell, Collection, Kind, Rec, Text};
 use std::alloc::{AllocError, Global};
 use std::test::Fail;

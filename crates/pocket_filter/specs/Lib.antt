@@ -1,0 +1,10 @@
+pub mod Faults
+pub mod Filters
+pub mod Grammar
+pub mod Lexing
+pub mod Operands
+pub mod Parsing
+pub mod Printed
+pub mod Printing
+pub mod Scanning
+pub mod Tokens

@@ -1,0 +1,13 @@
+//! The filter language: texts read to expressions, and expressions printed.
+#![tactic(auto)]
+
+mod lexer;
+mod limits;
+mod operands;
+mod parser;
+mod printer;
+mod reading;
+mod tokens;
+
+pub use printer::{print, printed_filter_is_read};
+pub use reading::{parse, trees_are_determined};

@@ -1,0 +1,278 @@
+// Tokens to a tree, one step a token. The groups that are open stand on a stack in memory: nothing recurses.
+ghost use Rattle.std.specs.Prelude.{◌≡◌, [], ◌∷◌, Some, None, IfOk, IfErr, map, reverse};
+ghost use Rattle.pocket_filter.specs.Tokens.{lexeme_of, placed};
+ghost use Rattle.pocket_filter.specs.Faults.{lexemes, AreRefused};
+ghost use Rattle.pocket_filter.specs.Grammar.{IsOr};
+ghost use Rattle.pocket_filter.specs.Parsing.{state_of, start, with_and, with_or, with_unit, feed, feed_unit, feed_op, feed_right, feed_join, feed_close, finish, IsRefusal};
+
+use crate::operands::operand_of;
+use crate::tokens::{Token, TokenKind};
+use pocket_types::{Boxed, Expr, FilterFault, Op, Operand};
+use std::alloc::{AllocError, Global};
+
+/// What stands in a group left of the unit that comes next: what `||` joins it to, and what `&&` joins it to.
+#[derive(Drop)]
+struct Group {
+    or: Option<Expr>,
+    and: Option<Expr>,
+}
+
+/// What may come next.
+#[derive(Drop)]
+enum Want {
+    /// An opening parenthesis or an operand.
+    Unit,
+    /// The operator of a comparison.
+    Op { left: Operand },
+    /// Its right operand.
+    Right { left: Operand, any: bool, op: Op },
+    /// A join, a closing parenthesis or the end.
+    Join { tree: Expr },
+}
+
+/// A parser between two tokens.
+#[derive(Drop)]
+struct Parser {
+    /// The groups around this one, the innermost last.
+    outer: Vec<Group>,
+    group: Group,
+    want: Want,
+}
+
+fn and_joined(alloc: Global, left: Option<Expr>, unit: Expr) -> Result<Expr, AllocError>
+    ensures { IfOk result (λ tree. tree ≡ with_and left unit) }
+{
+    match left {
+        None => Ok(unit),
+        Some(left) => Ok(Expr::And(Boxed::new(alloc, left)?, Boxed::new(alloc, unit)?)),
+    }
+}
+
+fn or_joined(alloc: Global, left: Option<Expr>, tree: Expr) -> Result<Expr, AllocError>
+    ensures { IfOk result (λ joined. joined ≡ with_or left tree) }
+{
+    match left {
+        None => Ok(tree),
+        Some(left) => Ok(Expr::Or(Boxed::new(alloc, left)?, Boxed::new(alloc, tree)?)),
+    }
+}
+
+impl Parser {
+    fn new(alloc: Global) -> Parser
+        ensures { state_of result ≡ start }
+    {
+        Parser {
+            outer: Vec::new(alloc),
+            group: Group {
+                or: None,
+                and: None,
+            },
+            want: Want::Unit,
+        }
+    }
+
+    /// The parser once a unit was read.
+    fn with_unit(
+        alloc: Global,
+        outer: Vec<Group>,
+        group: Group,
+        unit: Expr,
+    ) -> Result<Parser, AllocError>
+        ensures { IfOk result (λ next. state_of next ≡ with_unit (reverse outer.items) group unit) }
+    {
+        let Group { or, and } = group;
+        let tree = and_joined(alloc, and, unit)?;
+        Ok(Parser {
+            outer,
+            group: Group { or, and: None },
+            want: Want::Join { tree },
+        })
+    }
+
+    fn after_unit(
+        alloc: Global,
+        mut outer: Vec<Group>,
+        group: Group,
+        token: &Token<'_>,
+    ) -> Result<Parser, FilterFault>
+        ensures ok { IfOk result (λ next.
+            feed_unit (reverse outer.items) group (lexeme_of token.now.kind) ≡ Some (state_of next)) }
+        ensures bad { IfErr result
+            (IsRefusal token.now.at (feed_unit (reverse outer.items) group (lexeme_of token.now.kind))) }
+    {
+        if let TokenKind::Open = token.kind {
+            outer.push(group)?;
+            return Ok(Parser {
+                outer,
+                group: Group {
+                    or: None,
+                    and: None,
+                },
+                want: Want::Unit,
+            });
+        }
+        match operand_of(alloc, token.kind)? {
+            Some(left) => Ok(Parser {
+                outer,
+                group,
+                want: Want::Op { left },
+            }),
+            None => Err(FilterFault::Unexpected(token.at)),
+        }
+    }
+
+    fn after_op(
+        outer: Vec<Group>,
+        group: Group,
+        left: Operand,
+        token: &Token<'_>,
+    ) -> Result<Parser, FilterFault>
+        ensures ok { IfOk result (λ next.
+            feed_op (reverse outer.items) group left (lexeme_of token.now.kind) ≡ Some (state_of next)) }
+        ensures bad { IfErr result
+            (IsRefusal token.now.at (feed_op (reverse outer.items) group left (lexeme_of token.now.kind))) }
+    {
+        match token.kind {
+            TokenKind::Test { any, op } => Ok(Parser {
+                outer,
+                group,
+                want: Want::Right { left, any, op },
+            }),
+            _ => Err(FilterFault::Unexpected(token.at)),
+        }
+    }
+
+    fn after_right(
+        alloc: Global,
+        outer: Vec<Group>,
+        group: Group,
+        left: Operand,
+        any: bool,
+        op: Op,
+        token: &Token<'_>,
+    ) -> Result<Parser, FilterFault>
+        ensures ok { IfOk result (λ next.
+            feed_right (reverse outer.items) group left any op (lexeme_of token.now.kind) ≡ Some (state_of next)) }
+        ensures bad { IfErr result
+            (IsRefusal token.now.at (feed_right (reverse outer.items) group left any op (lexeme_of token.now.kind))) }
+    {
+        match operand_of(alloc, token.kind)? {
+            Some(right) => {
+                let unit = Expr::Test {
+                    left,
+                    any,
+                    op,
+                    right,
+                };
+                Ok(Parser::with_unit(alloc, outer, group, unit)?)
+            }
+            None => Err(FilterFault::Unexpected(token.at)),
+        }
+    }
+
+    /// The parser once the innermost group was closed, which holds a whole tree.
+    fn after_close(
+        alloc: Global,
+        mut outer: Vec<Group>,
+        tree: Expr,
+        at: u32,
+    ) -> Result<Parser, FilterFault>
+        ensures ok { IfOk result (λ next.
+            feed_close (reverse outer.items) tree ≡ Some (state_of next)) }
+        ensures bad { IfErr result (IsRefusal at (feed_close (reverse outer.items) tree)) }
+    {
+        match outer.pop() {
+            Some(group) => Ok(Parser::with_unit(alloc, outer, group, tree)?),
+            None => Err(FilterFault::Unexpected(at)),
+        }
+    }
+
+    fn after_join(
+        alloc: Global,
+        outer: Vec<Group>,
+        group: Group,
+        tree: Expr,
+        token: &Token<'_>,
+    ) -> Result<Parser, FilterFault>
+        ensures ok { IfOk result (λ next.
+            feed_join (reverse outer.items) group tree (lexeme_of token.now.kind) ≡ Some (state_of next)) }
+        ensures bad { IfErr result
+            (IsRefusal token.now.at (feed_join (reverse outer.items) group tree (lexeme_of token.now.kind))) }
+    {
+        let Group { or, and: _ } = group;
+        match token.kind {
+            TokenKind::And => Ok(Parser {
+                outer,
+                group: Group {
+                    or,
+                    and: Some(tree),
+                },
+                want: Want::Unit,
+            }),
+            TokenKind::Or => {
+                let tree = or_joined(alloc, or, tree)?;
+                Ok(Parser {
+                    outer,
+                    group: Group {
+                        or: Some(tree),
+                        and: None,
+                    },
+                    want: Want::Unit,
+                })
+            }
+            TokenKind::Close => {
+                let tree = or_joined(alloc, or, tree)?;
+                Parser::after_close(alloc, outer, tree, token.at)
+            }
+            _ => Err(FilterFault::Unexpected(token.at)),
+        }
+    }
+
+    /// The parser after a token.
+    #[tactic(auto, unfolding(crate::specs::Parsing::feed))]
+    fn after(self, alloc: Global, token: &Token<'_>) -> Result<Parser, FilterFault>
+        ensures ok { IfOk result (λ next.
+            feed (state_of self) (lexeme_of token.now.kind) ≡ Some (state_of next)) }
+        ensures bad { IfErr result
+            (IsRefusal token.now.at (feed (state_of self) (lexeme_of token.now.kind))) }
+    {
+        let Parser { outer, group, want } = self;
+        match want {
+            Want::Unit => Parser::after_unit(alloc, outer, group, token),
+            Want::Op { left } => Parser::after_op(outer, group, left, token),
+            Want::Right { left, any, op } => Parser::after_right(
+                alloc, outer, group, left, any, op, token,
+            ),
+            Want::Join { tree } => Parser::after_join(alloc, outer, group, tree, token),
+        }
+    }
+
+    /// The tree, where the tokens end.
+    #[tactic(auto, unfolding(crate::specs::Parsing::finish))]
+    fn finish(self, alloc: Global, end: u32) -> Result<Expr, FilterFault>
+        ensures ok { IfOk result (λ tree. finish (state_of self) ≡ Some tree) }
+        ensures bad { IfErr result (IsRefusal end (finish (state_of self))) }
+    {
+        let Parser { outer, group, want } = self;
+        match want {
+            Want::Join { tree } => if outer.is_empty() {
+                Ok(or_joined(alloc, group.or, tree)?)
+            } else {
+                Err(FilterFault::Unexpected(end))
+            },
+            _ => Err(FilterFault::Unexpected(end)),
+        }
+    }
+}
+
+/// The tree of the tokens of a text that ends at a place.
+pub fn tree_of(alloc: Global, tokens: &[Token<'_>], end: u32) -> Result<Expr, FilterFault>
+    ensures ok { IfOk result (λ tree. IsOr (lexemes (map placed tokens.now)) tree) }
+    ensures bad { IfErr result (AreRefused end (map placed tokens.now)) }
+{
+    let mut parser = Parser::new(alloc);
+    for token in tokens {
+        parser = parser.after(alloc, token)?;
+    }
+    parser.finish(alloc, end)
+}

@@ -1,0 +1,8 @@
+pub mod ListLemmas
+pub mod ChoiceLemmas
+pub mod MeaningLemmas
+pub mod Layers
+pub mod Picks
+pub mod CarriedOver
+pub mod Somebody
+pub mod Sights

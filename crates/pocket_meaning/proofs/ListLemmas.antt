@@ -1,0 +1,9 @@
+-- One more item of a list.
+use Rattle.std.proofs.Common.{◌≡◌, ℕ, ◌+◌, ◌<◌, List, [], ◌∷◌, ◌++◌, length, get_or, take}
+use Rattle.std.specs.Prelude.{Option, filter_map}
+use Rattle.std.specs.List.{cons_option}
+use Rattle.std.proofs.lemmas.List.Elements.{filter_map-append}
+use Rattle.pocket_types.proofs.PathLemmas.{take_one_more}
+
+pub filter_map_more : {X Y : Type 0} (h : X → Option Y) (xs : List X) (k : ℕ) (x : X) → k < length xs → x ≡ get_or xs k x → filter_map h (take (k + 1) xs) ≡ filter_map h (take k xs) ++ cons_option (h x) []
+filter_map_more h xs k x l is = rw (take_one_more xs k x l is) (filter_map-append h (take k xs) (x ∷ []))

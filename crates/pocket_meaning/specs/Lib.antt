@@ -1,0 +1,10 @@
+pub mod Members
+pub mod Prefixes
+pub mod Related
+pub mod Choices
+pub mod Values
+pub mod Meaning
+pub mod Seen
+pub mod Choosing
+pub mod Carrying
+pub mod Laws

@@ -1,0 +1,274 @@
+ghost use Rattle.std.specs.Prelude.{◌≡◌, IfOk, map, filter, filter_map, option_map, ◌++◌, false, zip, find};
+ghost use Rattle.std.specs.List.{list_any};
+ghost use Rattle.std.specs.Str.{bytes_eq};
+ghost use Rattle.std.specs.Option.{option_copied, option_map_or};
+ghost use Rattle.pocket_types.specs.Kinds.{target_of};
+ghost use Rattle.pocket_ops.specs.Cells.{items_of};
+ghost use Rattle.pocket_meaning.specs.Members as member;
+ghost use Rattle.pocket_meaning.specs.Related.{field_at, sent_for, sent_field, ids_of, shelf_member, held, refers, points_to, holders, step_list, root_list};
+ghost use Rattle.pocket_meaning.specs.Seen.{seen, sight_of};
+
+use crate::members::{Member, Scene};
+use pocket_types::{
+    Caller, Cell, Collection, Field, Id, Name, Rec, Root, Sent, Shelf, Step, World,
+};
+use std::alloc::{AllocError, Global};
+
+/// The first field of a name, with its cell.
+fn field_among<'a>(
+    fields: &'a [Field],
+    cells: &'a [Cell],
+    name: &Name,
+) -> Option<(&'a Field, &'a Cell)>
+    ensures { option_map (λ x. (x.0.now, x.1.now)) result ≡ find (λ x. bytes_eq x.0.name name.now) (zip fields.now cells.now) }
+{
+    match fields {
+        [] => None,
+        [field, fields @ ..] => match cells {
+            [] => None,
+            [cell, cells @ ..] => {
+                if field.name == *name {
+                    Some((field, cell))
+                } else {
+                    field_among(fields, cells, name)
+                }
+            }
+        },
+    }
+}
+
+/// A field of a record, with its cell.
+pub fn field_of<'a>(
+    collection: &'a Collection,
+    rec: &'a Rec,
+    name: &Name,
+) -> Option<(&'a Field, &'a Cell)>
+    ensures { option_map (λ x. (x.0.now, x.1.now)) result ≡ field_at collection.now rec.now name.now }
+{
+    field_among(collection.fields.as_slice(), rec.cells.as_slice(), name)
+}
+
+/// What was sent for a field.
+pub fn sent_of<'a>(body: &'a [Sent], name: &Name) -> Option<&'a Sent>
+    ensures { option_copied result ≡ sent_for body.now name.now }
+{
+    body.iter().find(|sent| sent.field == *name)
+}
+
+/// The field of a name.
+fn field_named<'a>(fields: &'a [Field], name: &Name) -> Option<&'a Field>
+    ensures { option_copied result ≡ find (λ x. bytes_eq x.name name.now) fields.now }
+{
+    fields.iter().find(|field| field.name == *name)
+}
+
+/// A field of the home collection that was sent, with the cell that it will have.
+pub fn sent_field_of<'a>(scene: &Scene<'a>, name: &Name) -> Option<(&'a Field, &'a Cell)>
+    ensures { option_map (λ x. (x.0.now, x.1.now)) result ≡ sent_field scene.now.world.now scene.now.home.now scene.now.ask.now.body name.now }
+{
+    let shelf = scene.world.shelf(scene.home)?;
+    let field = field_named(shelf.collection.fields.as_slice(), name)?;
+    let sent = sent_of(scene.ask.body.as_slice(), name)?;
+    Some((field, &sent.cell))
+}
+
+/// Adds the items of a cell.
+fn add_items<'a>(members: &mut Vec<Member<'a>>, cell: &'a Cell) -> Result<(), AllocError>
+    ensures { IfOk result (λ _. map seen members.new.items ≡ map seen members.old.items ++ map member.Item (items_of cell.now)) }
+{
+    match cell {
+        Cell::Picks(texts) => {
+            for text in texts.as_slice() {
+                members.push(Member::Item(text.as_str()))?;
+            }
+        }
+        Cell::Refs(ids) => {
+            for id in ids.as_slice() {
+                members.push(Member::Item(id.as_str()))?;
+            }
+        }
+        _ => {}
+    }
+    Ok(())
+}
+
+/// Adds the records of a shelf.
+fn add_shelf<'a>(members: &mut Vec<Member<'a>>, shelf: &'a Shelf) -> Result<(), AllocError>
+    ensures { IfOk result (λ _. map seen members.new.items ≡ map seen members.old.items ++ map (member.Record shelf.now.collection) shelf.now.recs) }
+{
+    for rec in shelf.recs.as_slice() {
+        members.push(Member::Record(&shelf.collection, rec))?;
+    }
+    Ok(())
+}
+
+/// Adds the records of a shelf that these ids name, in the ids' order.
+fn add_named<'a>(
+    members: &mut Vec<Member<'a>>,
+    shelf: &'a Shelf,
+    ids: &[Id],
+) -> Result<(), AllocError>
+    ensures { IfOk result (λ _. map seen members.new.items ≡ map seen members.old.items ++ filter_map (shelf_member shelf.now) ids.now) }
+{
+    for id in ids {
+        if let Some(rec) = shelf.rec(*id) {
+            members.push(Member::Record(&shelf.collection, rec))?;
+        }
+    }
+    Ok(())
+}
+
+/// The ids that a cell holds.
+fn ids_in(cell: &Cell) -> &[Id]
+    ensures { result.now ≡ ids_of cell.now }
+{
+    match cell {
+        Cell::Refs(ids) => ids.as_slice(),
+        _ => &[],
+    }
+}
+
+/// Adds the records that a relation holds.
+fn add_held<'a>(
+    members: &mut Vec<Member<'a>>,
+    world: &'a World,
+    field: &Field,
+    cell: &Cell,
+) -> Result<(), AllocError>
+    ensures { IfOk result (λ _. map seen members.new.items ≡ map seen members.old.items ++ held world.now (field.now, cell.now)) }
+{
+    if let Some(name) = field.kind.target()
+        && let Some(shelf) = world.shelf(name)
+    {
+        add_named(members, shelf, ids_in(cell))?;
+    }
+    Ok(())
+}
+
+/// Whether a field refers to a collection.
+fn is_relation_to(field: &Field, name: &Name) -> bool
+    ensures { result ≡ option_map_or (λ t. bytes_eq t name.now) (target_of field.now.kind) false }
+{
+    match field.kind.target() {
+        Some(target) => target == name,
+        None => false,
+    }
+}
+
+/// Whether a cell holds an id.
+fn has_id(cell: &Cell, id: Id) -> bool
+    ensures { result ≡ list_any (λ held. bytes_eq held id) (ids_of cell.now) }
+{
+    ids_in(cell).iter().any(|held| *held == id)
+}
+
+/// Whether a relation to a collection holds an id.
+fn does_refer(field: &Field, cell: &Cell, name: &Name, id: Id) -> bool
+    ensures { result ≡ refers name.now id (field.now, cell.now) }
+{
+    let to_it = is_relation_to(field, name);
+    let holds = has_id(cell, id);
+    to_it && holds
+}
+
+/// Whether a record's field refers to the record of a collection and an id.
+fn does_point(collection: &Collection, rec: &Rec, field: &Name, name: &Name, id: Id) -> bool
+    ensures { result ≡ points_to collection.now field.now name.now id rec.now }
+{
+    match field_of(collection, rec, field) {
+        Some((field, cell)) => does_refer(field, cell, name, id),
+        None => false,
+    }
+}
+
+/// Adds the records of a shelf whose field refers to the record of a collection and an id.
+fn add_holders<'a>(
+    members: &mut Vec<Member<'a>>,
+    shelf: &'a Shelf,
+    field: &Name,
+    name: &Name,
+    id: Id,
+) -> Result<(), AllocError>
+    ensures { IfOk result (λ _. map seen members.new.items ≡ map seen members.old.items ++ map (member.Record shelf.now.collection) (filter (points_to shelf.now.collection field.now name.now id) shelf.now.recs)) }
+{
+    for rec in shelf.recs.as_slice() {
+        if does_point(&shelf.collection, rec, field, name, id) {
+            members.push(Member::Record(&shelf.collection, rec))?;
+        }
+    }
+    Ok(())
+}
+
+/// The members to which a step leads.
+pub fn members_of_step<'a>(
+    alloc: Global,
+    scene: &Scene<'a>,
+    step: &Step,
+    from: Member<'a>,
+) -> Result<Vec<Member<'a>>, AllocError>
+    ensures { IfOk result (λ v. map seen v.items ≡ (sight_of scene.now).steps step.now (seen from.entry)) }
+{
+    let mut members = Vec::new(alloc);
+    match (step, from) {
+        (Step::Forward(name), Member::Record(collection, rec)) => {
+            if let Some((field, cell)) = field_of(collection, rec, name) {
+                add_held(&mut members, scene.world, field, cell)?;
+            }
+        }
+        (Step::Forward(name), Member::Sent) => {
+            if let Some((field, cell)) = sent_field_of(scene, name) {
+                add_held(&mut members, scene.world, field, cell)?;
+            }
+        }
+        (Step::Back(from, name), Member::Record(collection, rec)) => {
+            if let Some(shelf) = scene.world.shelf(from) {
+                add_holders(&mut members, shelf, name, &collection.name, rec.id)?;
+            }
+        }
+        (Step::Item(name), Member::Record(collection, rec)) => {
+            if let Some((_, cell)) = field_of(collection, rec, name) {
+                add_items(&mut members, cell)?;
+            }
+        }
+        (Step::Item(name), Member::Sent) => {
+            if let Some((_, cell)) = sent_field_of(scene, name) {
+                add_items(&mut members, cell)?;
+            }
+        }
+        _ => {}
+    }
+    Ok(members)
+}
+
+/// The members of a root.
+pub fn members_of_root<'a>(
+    alloc: Global,
+    scene: &Scene<'a>,
+    root: &Root,
+) -> Result<Vec<Member<'a>>, AllocError>
+    ensures { IfOk result (λ v. map seen v.items ≡ (sight_of scene.now).roots root.now) }
+{
+    let mut members = Vec::new(alloc);
+    match root {
+        Root::Home => {
+            if let Some(shelf) = scene.world.shelf(scene.home) {
+                members.push(Member::Record(&shelf.collection, scene.rec))?;
+            }
+        }
+        Root::Auth => {
+            if let Caller::Member(name, id) = &scene.ask.caller
+                && let Some(shelf) = scene.world.shelf(name)
+                && let Some(rec) = shelf.rec(*id)
+            {
+                members.push(Member::Record(&shelf.collection, rec))?;
+            }
+        }
+        Root::Body => members.push(Member::Sent)?,
+        Root::Look(name, _) => {
+            if let Some(shelf) = scene.world.shelf(name) {
+                add_shelf(&mut members, shelf)?;
+            }
+        }
+    }
+    Ok(members)
+}

@@ -1,0 +1,7 @@
+use Rattle.pocket_ops.proofs.LengthLemmas.{are_apart-more}
+use Rattle.pocket_ops.proofs.row_lengths.+are_apart.Goals as goal
+
+pub returns-then-not-named : goal.returns-then-not-named
+returns-then-not-named t c =
+    are_apart-more c.in-Some.first.now c.in-Some.rest.now c.args.fields.now c.as_str.result.now c.has_name-named.result c.are_apart-apart.result c.in-Some.ensures.cases.0 c.as_str.ensures.text c.has_name-named.ensures
+    c.if-not-named.true c.are_apart-apart.ensures

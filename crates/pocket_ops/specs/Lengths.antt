@@ -1,0 +1,30 @@
+-- The lengths of texts, held at the end of 64 bits.
+use Rattle.std.specs.Prelude.{ℕ, ◌-◌, ◌^◌, min, Bool, true, not, ◌&&◌, List, [], ◌∷◌, length, codes}
+use Rattle.std.specs.List.{list_all, list_any}
+use Rattle.std.specs.Str.{bytes_eq}
+use Rattle.pocket_types.specs.Json.{printed}
+use Rattle.pocket_types.specs.declared.records.Collection.{Collection}
+use Rattle.pocket_types.specs.declared.records.Field.{Field}
+use Rattle.pocket_types.specs.declared.records.Rec.{Rec}
+use Rattle.pocket_ops.specs.Trees.{kept_jv}
+
+-- a number, held at 2^64 - 1
+abbrev pub held : ℕ → ℕ
+held n = min n (2 ^ 64 - 1)
+
+-- the number of bytes of a record's row text
+abbrev pub row_len : Collection → Rec → ℕ
+row_len c r = length (printed (kept_jv c r))
+
+-- whether no two fields have one name
+abbrev pub are_apart : List Field → Bool
+are_apart [] = true
+are_apart (f ∷ fs) = not (list_any (λ g. bytes_eq g.name f.name) fs) && are_apart fs
+
+-- whether a field's name is none of a record's dates
+abbrev pub is_undated : Field → Bool
+is_undated f = not (bytes_eq f.name (codes "created")) && not (bytes_eq f.name (codes "updated"))
+
+-- whether no two members of a record's row have one name
+abbrev pub has_own_names : Collection → Bool
+has_own_names c = are_apart c.fields && list_all is_undated c.fields
