@@ -1,9 +1,8 @@
 -- How many comparisons stand in a filter's tokens.
-use Rattle.std.proofs.Common.{◌≡◌, ℕ, zero, suc, ◌+◌, ◌<◌, ◌≤◌, List, [], ◌∷◌, ◌++◌, Bool, false, Some, cond, map, length, refl, sym, ap, ◌∙◌, arith, count_by}
+use Rattle.std.proofs.Common.{◌≡◌, ℕ, ◌+◌, List, [], ◌∷◌, ◌++◌, Bool, false, Some, cond, map, refl, sym, ap, ◌∙◌, arith, count_by}
 use Rattle.std.proofs.lemmas.List.Sums.{sum_by-append}
 use Rattle.pocket_types.specs.Inductions.{expr_test, expr_and, expr_or}
 use Rattle.pocket_types.specs.declared.expr.Expr.{Expr}
-use Rattle.pocket_types.specs.declared.expr.Expr.TheVariants as made
 use Rattle.pocket_types.specs.declared.expr.Op.{Op}
 use Rattle.pocket_types.specs.declared.expr.Operand.{Operand}
 use Rattle.pocket_filter.specs.declared.tokens.Token.{Token}

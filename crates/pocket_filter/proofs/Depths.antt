@@ -1,9 +1,9 @@
 -- How deep tokens nest.
 use Rattle.std.proofs.Common.{◌≡◌, ℕ, zero, suc, ◌+◌, ◌-◌, ◌<◌, ◌≤◌, ◌⊎◌, inl, inr, List, [], ◌∷◌, ◌++◌, map, take, length, get_or, refl, sym, ap, subst, ◌∙◌, arith}
 use Rattle.std.proofs.lemmas.Grind.{common_steps}
-use Rattle.std.proofs.lemmas.List.{map-append, take_more, length-map}
+use Rattle.std.proofs.lemmas.List.{map-append, take_more}
 use Rattle.pocket_filter.specs.declared.tokens.Token.{Token}
-use Rattle.pocket_filter.specs.Faults.{Placed, lexemes, open_after, IsTooDeep}
+use Rattle.pocket_filter.specs.Faults.{lexemes, open_after, IsTooDeep}
 use Rattle.pocket_filter.specs.Tokens.{Lexeme, lexeme_of, placed}
 
 pub open_after-append : (n : ℕ) (xs ys : List Lexeme) → open_after n (xs ++ ys) ≡ open_after (open_after n xs) ys

@@ -1,5 +1,5 @@
 -- What the parser holds are trees of the tokens that it has read.
-use Rattle.std.proofs.Common.{◌≡◌, ℕ, List, [], ◌∷◌, ◌++◌, Option, Some, None, Bool, false, ℤ, pos, refl, sym, ap, subst, ◌∙◌, append_assoc, append-nil, arith, rules}
+use Rattle.std.proofs.Common.{◌≡◌, List, [], ◌∷◌, ◌++◌, Option, Some, None, Bool, false, pos, refl, sym, ap, subst, ◌∙◌, append_assoc, append-nil}
 use Rattle.std.specs.Prelude.{option_and_then, option_map}
 use Rattle.pocket_types.specs.declared.expr.Expr.{Expr}
 use Rattle.pocket_types.specs.declared.expr.Expr.TheVariants as made
@@ -13,8 +13,8 @@ use Rattle.pocket_filter.specs.declared.parser.Want.TheVariants as want
 use Rattle.pocket_filter.specs.Grammar.{IsOr, IsAnd, IsUnit, only_and, join_or, only_unit, join_and, group, test}
 use Rattle.pocket_filter.specs.Operands.{operand}
 use Rattle.pocket_filter.specs.Tokens.{Lexeme}
-use Rattle.pocket_filter.specs.Parsing.{State, start, no_group, with_and, with_or, with_unit, feed, feed_want, feed_unit, feed_op, feed_right, feed_join, feed_close, feeds, finish, finish_want}
-use Rattle.pocket_filter.specs.Faults.{HasTree, BeginsFilter}
+use Rattle.pocket_filter.specs.Parsing.{State, start, no_group, with_and, with_or, with_unit, feed, feed_want, feed_unit, feed_op, feed_join, feed_close, feeds, finish, finish_want}
+use Rattle.pocket_filter.specs.Faults.{BeginsFilter}
 
 -- ---- what stands left of a tree
 

@@ -1,9 +1,9 @@
 -- Where an ident ends.
-use Rattle.std.proofs.Common.{◌≡◌, ◌≢◌, ◌+◌, ◌<◌, ◌≤◌, ◌==◌, ◌||◌, ◌&&◌, ◌⊎◌, inl, inr, ℕ, zero, suc, List, [], ◌∷◌, ◌++◌, length, get_or, take, drop, slice_index, true, false, Bool, Option, Some, None, IfSome, is_some, refl, sym, ap, ◌∙◌, subst, arith, one-add, zero-add, append_assoc, append-nil, ne_eqb, eq-eqb}
-use Rattle.std.proofs.lemmas.Bool.{eqb-true, eqb-false, and_parts, and_from, or_cases}
+use Rattle.std.proofs.Common.{◌≡◌, ◌+◌, ◌<◌, ◌≤◌, ◌==◌, ◌&&◌, ◌⊎◌, inl, inr, ℕ, zero, suc, List, [], ◌∷◌, ◌++◌, length, take, drop, slice_index, true, false, Bool, Option, Some, None, IfSome, is_some, refl, sym, ap, ◌∙◌, subst, arith, zero-add, append_assoc, append-nil}
+use Rattle.std.proofs.lemmas.Bool.{eqb-true, and_parts, and_from}
 use Rattle.std.proofs.lemmas.Bool.Decides.{nat_tests}
 use Rattle.std.proofs.lemmas.List.{length-append, length-drop}
-use Rattle.std.specs.List.{AllByRecursion, list_all, flat_map}
+use Rattle.std.specs.List.{AllByRecursion, list_all}
 use Rattle.std.specs.Str.{IsUtf8, IsCharBoundary}
 use Rattle.pocket_types.specs.Names.{is_digit, is_word}
 use Rattle.pocket_types.specs.declared.expr.Part.{Part}
@@ -29,7 +29,7 @@ suffix_run (Some name) rest h =
     let run = words_run true name rest h.1 in
     rw (name_first name rest h) (omega arith)
 
-part_run : (part : Part) (rest : List ℕ) → IsPart part → path_len false (part_text part ++ rest) ≡ length (part_text part) + path_len (is_some part.suffix) rest
+pub part_run : (part : Part) (rest : List ℕ) → IsPart part → path_len false (part_text part ++ rest) ≡ length (part_text part) + path_len (is_some part.suffix) rest
 part_run part rest h =
     let name = words_run false part.name (suffix_text part.suffix ++ rest) h.name.1 in
     let suffix = suffix_run part.suffix rest h.suffix in
@@ -184,7 +184,7 @@ begins_word b h = grind (arith, nat_tests)
 begins_no_digit : (b : ℕ) → begins_name b ≡ true → is_digit b ≡ false
 begins_no_digit b h = grind (arith, nat_tests)
 
-no_sign : (b : ℕ) → is_word b ≡ true → sign_len 64 b ≡ 0
+pub no_sign : (b : ℕ) → is_word b ≡ true → sign_len 64 b ≡ 0
 no_sign b h = grind (arith, nat_tests)
 
 -- an ident after its sign
@@ -198,10 +198,10 @@ ident_token : (token : List ℕ) (l : Lexeme) → class (slice_index token 0) �
 ident_token token (Ident written) h s = s.1
 ident_token token l h s = let apart : 3 ≡ class_of l = sym h ∙ class_is token l s in absurd (omega arith)
 
-abbrev Fits : List ℕ → List ℕ → Type 0
+abbrev pub Fits : List ℕ → List ℕ → Type 0
 Fits bytes token = (begins_name (slice_index (after_sign bytes) 0) ≡ true) × (length token ≤ ident_len bytes)
 
-path_begins : (parts : List Part) (rest : List ℕ) → ArePath parts → slice_index (parts_text parts ++ rest) 0 ≡ slice_index (parts_text parts) 0
+pub path_begins : (parts : List Part) (rest : List ℕ) → ArePath parts → slice_index (parts_text parts ++ rest) 0 ≡ slice_index (parts_text parts) 0
 path_begins parts rest h = go (parts_text parts) (path_first parts h)
   where
     go : (text : List ℕ) → is_word (slice_index text 0) ≡ true → slice_index (text ++ rest) 0 ≡ slice_index text 0
@@ -221,7 +221,7 @@ fits false parts rest h =
     let P : ℕ → Type 0 = λ k. (begins_name (slice_index (drop k (parts_text parts ++ rest)) 0) ≡ true) × (length (parts_text parts) ≤ k + path_len false (drop k (parts_text parts ++ rest))) in
     subst P (sym start) (ap begins_name begins ∙ first, omega arith)
 
-token_fits : (bytes token rest : List ℕ) (l : Lexeme) → class (slice_index bytes 0) ≡ 3 → bytes ≡ token ++ rest → Spells token l → Fits bytes token
+pub token_fits : (bytes token rest : List ℕ) (l : Lexeme) → class (slice_index bytes 0) ≡ 3 → bytes ≡ token ++ rest → Spells token l → Fits bytes token
 token_fits bytes [] rest l h e s = absurd (spelled_some l s)
 token_fits bytes (b ∷ token) rest l h e s =
     let i = ident_token (b ∷ token) l (ap (λ s. class (slice_index s 0)) (sym e) ∙ h) s in

@@ -17,6 +17,7 @@ pub mod Readings
 pub mod Refusals
 pub mod Separators
 pub mod Spelled
+pub mod StrayMarks
 pub mod Texts
 pub mod TreesRead
 pub mod Verdicts

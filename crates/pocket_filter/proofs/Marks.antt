@@ -1,5 +1,5 @@
 -- Parentheses, joins and operators.
-use Rattle.std.proofs.Common.{◌≡◌, ◌≢◌, ◌+◌, ◌<◌, ◌≤◌, ◌==◌, ℕ, zero, suc, List, [], ◌∷◌, ◌++◌, length, get_or, take, drop, slice_index, true, false, Bool, Option, Some, None, option_map, refl, sym, ap, ◌∙◌, subst, arith, codes, one-add, cond, ◌⊎◌, inl, inr}
+use Rattle.std.proofs.Common.{◌≡◌, ◌+◌, ◌<◌, ◌≤◌, ◌==◌, ℕ, suc, List, [], ◌∷◌, ◌++◌, length, take, slice_index, true, false, Bool, Option, Some, None, option_map, refl, sym, ap, ◌∙◌, subst, arith, one-add, cond, ◌⊎◌, inl, inr}
 use Rattle.std.proofs.lemmas.Bool.{eqb-true}
 use Rattle.std.proofs.lemmas.Bool.Decides.{nat_tests}
 use Rattle.std.proofs.lemmas.List.{length-append, take_at}
@@ -7,7 +7,7 @@ use Rattle.std.specs.Str.{IsUtf8, IsCharBoundary}
 use Rattle.pocket_types.specs.declared.expr.Op.{Op}
 use Rattle.pocket_types.specs.declared.expr.Op.TheVariants.{Eq, Ne, Gt, Ge, Lt, Le, Like, Unlike}
 use Rattle.pocket_filter.specs.Tokens.{Lexeme, Open, Close, And, Or, Test, Ident, Text, Number}
-use Rattle.pocket_filter.specs.Lexing.{op_text, test_text, Spells, TakesLongest, BeginsNoToken, IsInRange, is_quote}
+use Rattle.pocket_filter.specs.Lexing.{op_text, Spells, TakesLongest, BeginsNoToken, IsInRange, is_quote}
 use Rattle.pocket_filter.specs.Scanning.{class, op_of, mark_of}
 use Rattle.pocket_filter.proofs.Fronts.{AreAscii, longest_by, none_by, boundary_after}
 use Rattle.pocket_filter.proofs.Spelled.{class_of, class_is, spelled_some}

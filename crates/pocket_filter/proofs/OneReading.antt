@@ -1,6 +1,6 @@
 -- A text is read in one way.
-use Rattle.std.proofs.Common.{◌≡◌, ◌≢◌, ◌+◌, ◌<◌, ◌≤◌, ◌==◌, ◌||◌, ◌⊎◌, inl, inr, ℕ, zero, suc, ℤ, List, [], ◌∷◌, ◌++◌, length, take, drop, get_or, slice_index, Bool, true, false, cond, Option, Some, None, refl, sym, ap, ◌∙◌, subst, arith, zero-add, take-append-drop}
-use Rattle.std.proofs.lemmas.Bool.{eqb-true, or_cases, cond-true, cond-false}
+use Rattle.std.proofs.Common.{◌≡◌, ◌≢◌, ◌+◌, ◌≤◌, ◌==◌, ◌||◌, inl, inr, ℕ, zero, suc, ℤ, List, [], ◌∷◌, ◌++◌, length, take, drop, slice_index, Bool, true, false, cond, Option, Some, None, refl, sym, ap, ◌∙◌, subst, arith, take-append-drop}
+use Rattle.std.proofs.lemmas.Bool.{eqb-true, or_cases, cond-true}
 use Rattle.std.proofs.lemmas.Bool.Decides.{nat_tests}
 use Rattle.std.proofs.lemmas.List.{length-take-le}
 use Rattle.std.proofs.lemmas.Str.Parse.{digit_from_value}

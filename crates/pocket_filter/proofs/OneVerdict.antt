@@ -1,11 +1,11 @@
 -- A text has one verdict.
-use Rattle.std.proofs.Common.{◌≡◌, ◌≢◌, ◌⊎◌, inl, inr, ℕ, ◌<◌, ◌≤◌, List, [], ◌∷◌, ◌++◌, Option, Some, None, Result, Ok, Err, IfOk, IfErr, map, length, refl, sym, ap, subst, ◌∙◌, append_assoc, append-nil, arith}
+use Rattle.std.proofs.Common.{◌≡◌, ◌≢◌, ◌⊎◌, inl, inr, ℕ, ◌<◌, ◌≤◌, List, [], ◌∷◌, ◌++◌, Option, Some, None, Result, Ok, Err, IfOk, IfErr, length, refl, sym, ap, subst, ◌∙◌, append_assoc, append-nil, arith}
 use Rattle.std.proofs.lemmas.List.{map-append}
 use Rattle.pocket_types.specs.declared.expr.Expr.{Expr}
 use Rattle.pocket_types.specs.declared.faults.FilterFault.{FilterFault}
 use Rattle.pocket_types.specs.declared.faults.FilterFault.TheVariants as faults
 use Rattle.pocket_filter.specs.Faults.{Placed, lexemes, HasTree, BeginsFilter, IsTooDeep, IsUnexpected, token, at_end, comparisons}
-use Rattle.pocket_filter.specs.Filters.{HasTokens, HasTooMany, HasLexicalFault, NestsTooDeep, GoesWrong, IsFault, IsFilter, IsVerdict, IsAnswer}
+use Rattle.pocket_filter.specs.Filters.{HasLexicalFault, IsFault, IsFilter, IsVerdict, IsAnswer}
 use Rattle.pocket_filter.specs.Grammar.{IsOr}
 use Rattle.pocket_filter.specs.Lexing.{Lexes}
 use Rattle.pocket_filter.specs.Tokens.{Lexeme}

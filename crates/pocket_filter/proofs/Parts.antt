@@ -1,6 +1,6 @@
 -- The parts of an ident.
 use Rattle.std.proofs.Common.{◌≡◌, ◌+◌, ◌<◌, ◌==◌, ℕ, suc, List, [], ◌∷◌, length, take, map, Bool, true, false, cond, Option, Some, None, Bor, refl, sym, ap, ◌∙◌, arith, slice_index}
-use Rattle.std.proofs.lemmas.Bool.{eqb-true, cond-false}
+use Rattle.std.proofs.lemmas.Bool.{cond-false}
 use Rattle.std.proofs.lemmas.List.{take_all}
 use Rattle.std.specs.List.{before_first, after_first, list_any, position_or_len}
 use Rattle.pocket_types.specs.declared.expr.Part.{Part}

@@ -1,8 +1,8 @@
 -- Steps of a reading.
-use Rattle.std.proofs.Common.{◌≡◌, ◌≢◌, ◌+◌, ◌-◌, ◌<◌, ◌≤◌, ℕ, List, [], ◌∷◌, ◌++◌, length, drop, slice_index, true, false, Option, Some, None, map, refl, sym, ap, ◌∙◌, subst, arith, append_assoc}
+use Rattle.std.proofs.Common.{◌≡◌, ◌+◌, ◌-◌, ◌<◌, ◌≤◌, ℕ, List, [], ◌∷◌, ◌++◌, length, drop, slice_index, true, false, Option, Some, map, sym, ap, ◌∙◌, subst, arith, append_assoc}
 use Rattle.std.proofs.lemmas.List.{length-drop, map_push}
 use Rattle.pocket_types.specs.declared.faults.FilterFault.{FilterFault}
-use Rattle.pocket_types.specs.declared.faults.FilterFault.TheVariants.{BadByte, OpenString, NumberRange}
+use Rattle.pocket_types.specs.declared.faults.FilterFault.TheVariants.{BadByte, OpenString}
 use Rattle.pocket_filter.specs.declared.tokens.Token.{Token}
 use Rattle.pocket_filter.specs.Tokens.{Lexeme, placed}
 use Rattle.pocket_filter.specs.Lexing.{is_quote, TakesLongest, TakesSeparator, BeginsNoToken, BeginsNoSeparator, IsInRange, Lexes, separator, token, open_text, no_token}

@@ -1,18 +1,16 @@
 -- What the parser says of a text's tokens.
-use Rattle.std.proofs.Common.{add-one, ◌≡◌, ℕ, ◌+◌, ◌<◌, ◌≤◌, List, [], ◌∷◌, ◌++◌, Option, Some, None, Result, Ok, Err, IfErr, map, take, drop, length, get_or, suc, refl, sym, ap, subst, ◌∙◌, arith}
+use Rattle.std.proofs.Common.{add-one, ◌≡◌, ℕ, ◌+◌, ◌<◌, ◌≤◌, List, [], ◌∷◌, ◌++◌, Some, None, Result, Ok, Err, IfErr, map, take, drop, length, get_or, suc, sym, ap, subst, ◌∙◌, arith}
 use Rattle.std.specs.Result.{IsErrAnd}
 use Rattle.std.proofs.Math.Seq.{split_at}
 use Rattle.std.proofs.lemmas.Grind.{common_steps}
 use Rattle.std.proofs.lemmas.List.{map-append, take_more}
-use Rattle.pocket_types.specs.declared.expr.Expr.{Expr}
 use Rattle.pocket_types.specs.declared.faults.FilterFault.{FilterFault}
 use Rattle.pocket_types.specs.declared.faults.FilterFault.TheVariants as faults
 use Rattle.pocket_filter.specs.declared.tokens.Token.{Token}
-use Rattle.pocket_filter.specs.Faults.{Placed, lexemes, AreRefused, IsUnexpected, token, at_end, BeginsFilter, HasTree}
-use Rattle.pocket_filter.specs.Grammar.{IsOr}
+use Rattle.pocket_filter.specs.Faults.{Placed, lexemes, AreRefused, IsUnexpected, token, at_end, BeginsFilter}
 use Rattle.pocket_filter.specs.Parsing.{State, start, feed, feeds, finish, IsRefusal}
 use Rattle.pocket_filter.specs.Tokens.{Lexeme, lexeme_of, placed}
-use Rattle.pocket_filter.proofs.Holding.{begins, finished}
+use Rattle.pocket_filter.proofs.Holding.{begins}
 use Rattle.pocket_filter.proofs.TreesRead.{feeds_on, feeds_then, not_begun, not_whole}
 
 -- the tokens of the first items

@@ -1,6 +1,6 @@
 -- Where separators are.
-use Rattle.std.proofs.Common.{◌≡◌, ◌≢◌, ◌+◌, ◌<◌, ◌≤◌, ◌==◌, ◌⊎◌, inl, inr, ℕ, zero, suc, List, [], ◌∷◌, length, get_or, take, drop, slice_index, true, false, Bool, refl, sym, ap, ◌∙◌, subst, arith, one-add}
-use Rattle.std.proofs.lemmas.Bool.{eqb-true, eqb-false, not-false, not-true}
+use Rattle.std.proofs.Common.{◌≡◌, ◌≢◌, ◌+◌, ◌<◌, ◌==◌, ◌⊎◌, inl, inr, ℕ, zero, suc, List, [], ◌∷◌, length, get_or, take, drop, slice_index, true, false, Bool, refl, sym, subst, arith, one-add}
+use Rattle.std.proofs.lemmas.Bool.{eqb-true, eqb-false, not-false}
 use Rattle.std.proofs.lemmas.List.Sums.{prefix_len-le-length, prefix_len_stops}
 use Rattle.std.specs.List.{AllByRecursion, prefix_len}
 use Rattle.std.specs.Str.{IsUtf8, IsCharBoundary}

@@ -1,16 +1,15 @@
 -- What the first byte of a token tells of it.
-use Rattle.std.proofs.Common.{◌≡◌, ◌≢◌, ◌<◌, ◌≤◌, ◌&&◌, ◌||◌, ◌==◌, ℕ, List, [], ◌∷◌, ◌++◌, length, get_or, slice_index, Bool, true, false, Option, Some, None, refl, sym, ap, ◌∙◌, arith, append_assoc}
+use Rattle.std.proofs.Common.{◌≡◌, ◌<◌, ◌≤◌, ℕ, List, [], ◌∷◌, ◌++◌, slice_index, Bool, true, false, refl, ap, ◌∙◌, arith, append_assoc}
 use Rattle.std.proofs.lemmas.Bool.{and_parts, cond-true}
 use Rattle.std.proofs.lemmas.Bool.Decides.{nat_tests}
 use Rattle.std.proofs.lemmas.Str.Parse.{digit_from_value}
-use Rattle.std.specs.List.{AllByRecursion, list_all}
+use Rattle.std.specs.List.{list_all}
 use Rattle.std.specs.Str.Parse.{IsNumeral}
 use Rattle.pocket_types.specs.Names.{is_digit, is_word}
-use Rattle.pocket_types.specs.declared.expr.Op.{Op}
 use Rattle.pocket_types.specs.declared.expr.Op.TheVariants.{Eq}
 use Rattle.pocket_types.specs.declared.expr.Part.{Part}
 use Rattle.pocket_filter.specs.Tokens.{Lexeme, Open, Close, And, Or, Test, Ident, Text, Number}
-use Rattle.pocket_filter.specs.Lexing.{IsName, part_text, IsPart, dotted, parts_text, ident_text, ArePath, is_quote, quoted, IsText, minus_text, IsNumber, Spells}
+use Rattle.pocket_filter.specs.Lexing.{IsName, part_text, IsPart, dotted, parts_text, ident_text, ArePath, is_quote, minus_text, Spells}
 use Rattle.pocket_filter.specs.Scanning.{class}
 
 -- what the class of a token's first byte is

@@ -1,13 +1,13 @@
 -- Where a text ends.
-use Rattle.std.proofs.Common.{◌≡◌, ◌≢◌, ◌<◌, ◌≤◌, ◌||◌, ◌==◌, ◌+◌, ℕ, zero, suc, List, [], ◌∷◌, ◌++◌, length, take, drop, get_or, Bool, true, false, Option, Some, None, refl, sym, ap, ◌∙◌, arith, append_assoc, subst, ne_eqb, eq-eqb, take-append-drop, zero-add, slice_index}
+use Rattle.std.proofs.Common.{◌≡◌, ◌≢◌, ◌<◌, ◌||◌, ◌==◌, ◌+◌, ℕ, zero, suc, List, [], ◌∷◌, ◌++◌, length, take, drop, get_or, Bool, true, false, Some, None, refl, sym, ap, ◌∙◌, arith, append_assoc, subst, ne_eqb, eq-eqb, take-append-drop, zero-add, slice_index}
 use Rattle.std.proofs.lemmas.Bool.{eqb-true, eqb-false, or_parts}
 use Rattle.std.proofs.lemmas.Bool.Decides.{nat_tests}
 use Rattle.std.proofs.lemmas.List.{take_more, length-take-le, length_push}
 use Rattle.std.proofs.lemmas.Str.{IsCharBoundary-after_ascii}
 use Rattle.std.specs.Str.{IsUtf8, IsCharBoundary}
-use Rattle.pocket_filter.specs.Tokens.{Lexeme, Open, Close, And, Or, Test, Ident, Text, Number}
-use Rattle.pocket_filter.specs.Lexing.{is_quote, Gives, nothing, itself, escaped, backslash, quoted, IsText, Spells, TakesLongest, BeginsNoToken}
-use Rattle.pocket_filter.specs.Scanning.{class, closing}
+use Rattle.pocket_filter.specs.Tokens.{Lexeme, Text}
+use Rattle.pocket_filter.specs.Lexing.{is_quote, Gives, nothing, itself, escaped, backslash, IsText, Spells, TakesLongest, BeginsNoToken}
+use Rattle.pocket_filter.specs.Scanning.{closing}
 use Rattle.pocket_filter.proofs.Spelled.{class_of, class_quote, class_is, spelled_some}
 
 -- the backslash that stands before what follows

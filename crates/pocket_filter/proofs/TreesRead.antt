@@ -1,5 +1,5 @@
 -- The parser reads exactly the grammar.
-use Rattle.std.proofs.Common.{◌≡◌, ℕ, List, [], ◌∷◌, ◌++◌, Option, Some, None, Bool, refl, sym, ap, ◌∙◌, append_assoc, append-nil, arith, rules}
+use Rattle.std.proofs.Common.{◌≡◌, List, [], ◌∷◌, ◌++◌, Option, Some, None, Bool, refl, sym, ap, ◌∙◌}
 use Rattle.std.specs.Prelude.{option_and_then, option_map}
 use Rattle.pocket_types.specs.declared.expr.Expr.{Expr}
 use Rattle.pocket_types.specs.declared.expr.Expr.TheVariants as made
@@ -11,7 +11,7 @@ use Rattle.pocket_filter.specs.declared.parser.Want.TheVariants as want
 use Rattle.pocket_filter.specs.Grammar.{IsOr, IsAnd, IsUnit, only_and, join_or, only_unit, join_and, group, test}
 use Rattle.pocket_filter.specs.Operands.{operand}
 use Rattle.pocket_filter.specs.Tokens.{Lexeme}
-use Rattle.pocket_filter.specs.Parsing.{State, start, no_group, with_and, with_or, with_unit, feed, feed_want, feed_unit, feed_op, feed_right, feed_join, feed_close, feeds, finish, finish_want}
+use Rattle.pocket_filter.specs.Parsing.{State, start, with_and, with_or, with_unit, feed, feed_unit, feeds, finish}
 use Rattle.pocket_filter.specs.Faults.{HasTree, BeginsFilter}
 
 -- ---- tokens one after another

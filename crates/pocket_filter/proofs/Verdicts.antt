@@ -1,6 +1,5 @@
 -- From a text's tokens to what the text is.
-use Rattle.std.proofs.Common.{◌≡◌, ◌≢◌, ℕ, ◌<◌, ◌≤◌, List, Option, Some, None, Bool, Result, Ok, Err, IfErr, IfSome, map, length, count_by, refl, sym, ap, subst, ◌∙◌, arith}
-use Rattle.std.specs.Result.{IsErrAnd}
+use Rattle.std.proofs.Common.{◌≡◌, ◌≢◌, ℕ, ◌<◌, ◌≤◌, List, Option, Some, None, IfSome, map, length, count_by, refl, sym, ap, subst, ◌∙◌, arith}
 use Rattle.pocket_types.specs.declared.expr.Expr.{Expr}
 use Rattle.pocket_types.specs.declared.faults.FilterFault.{FilterFault}
 use Rattle.pocket_types.specs.declared.faults.FilterFault.TheVariants as faults
@@ -9,7 +8,7 @@ use Rattle.pocket_filter.specs.Faults.{Placed, lexemes, AreRefused, IsTooDeep, i
 use Rattle.pocket_filter.specs.Filters.{HasTokens, HasTooMany, IsFault, IsFilter}
 use Rattle.pocket_filter.specs.Grammar.{IsOr}
 use Rattle.pocket_filter.specs.Lexing.{Lexes, done, separator, token, over_range, open_text, no_token}
-use Rattle.pocket_filter.specs.Tokens.{Lexeme, lexeme_of, placed}
+use Rattle.pocket_filter.specs.Tokens.{lexeme_of, placed}
 use Rattle.pocket_filter.proofs.Counts.{counts_are, counted}
 
 -- ---- lexical faults

@@ -1,5 +1,5 @@
 -- Which texts are filters, and what is wrong with the others.
-use Rattle.std.specs.Prelude.{◌≡◌, ◌≤◌, ◌<◌, ℕ, List, length, Option, Some, None, Result, Ok, Err, ◌⊎◌}
+use Rattle.std.specs.Prelude.{◌≡◌, ◌≤◌, ◌<◌, ℕ, List, length, Some, None, Result, Ok, Err, ◌⊎◌}
 use Rattle.pocket_types.specs.declared.expr.Expr.{Expr}
 use Rattle.pocket_types.specs.declared.faults.FilterFault.{FilterFault}
 use Rattle.pocket_types.specs.declared.faults.FilterFault.TheVariants as faults

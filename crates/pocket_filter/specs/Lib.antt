@@ -7,4 +7,5 @@ pub mod Parsing
 pub mod Printed
 pub mod Printing
 pub mod Scanning
+pub mod Stray
 pub mod Tokens

@@ -1,5 +1,5 @@
 -- The operands that tokens are.
-use Rattle.std.specs.Prelude.{ℕ, ◌-◌, ◌==◌, ◌&&◌, ◌||◌, List, [], ◌∷◌, length, take, drop, map, slice_index, codes, Bool, Option, Some, None, if◌then◌else◌, true, false}
+use Rattle.std.specs.Prelude.{ℕ, ◌-◌, ◌==◌, ◌&&◌, ◌||◌, List, [], ◌∷◌, length, take, drop, map, slice_index, codes, Option, Some, None, if◌then◌else◌, true, false}
 use Rattle.std.specs.List.{slice_split, before_first, after_first, list_any}
 use Rattle.std.specs.Str.{bytes_eq}
 use Rattle.pocket_types.specs.declared.expr.Operand.{Operand}

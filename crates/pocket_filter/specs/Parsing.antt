@@ -1,5 +1,5 @@
 -- How the parser goes on, a token at a time. Only contracts inside this crate speak of it.
-use Rattle.std.specs.Prelude.{◌≡◌, ◌++◌, ℕ, Bool, List, [], ◌∷◌, Option, Some, None, option_map, option_and_then, reverse, map, Result}
+use Rattle.std.specs.Prelude.{◌≡◌, ℕ, Bool, List, [], ◌∷◌, Option, Some, None, option_map, option_and_then, reverse}
 use Rattle.pocket_types.specs.declared.expr.Expr.{Expr}
 use Rattle.pocket_types.specs.declared.expr.Expr.TheVariants as made
 use Rattle.pocket_types.specs.declared.expr.Op.{Op}

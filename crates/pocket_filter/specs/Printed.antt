@@ -1,5 +1,5 @@
 -- The printed form of a filter.
-use Rattle.std.specs.Prelude.{ℕ, ◌==◌, ◌||◌, ◌++◌, Bool, true, false, if◌then◌else◌, List, [], ◌∷◌, codes, flat_map}
+use Rattle.std.specs.Prelude.{ℕ, ◌==◌, ◌||◌, ◌++◌, true, false, if◌then◌else◌, List, [], ◌∷◌, codes, flat_map}
 use Rattle.std.specs.Fmt.{signed_decimal}
 use Rattle.pocket_types.specs.declared.expr.Expr.{Expr, fold-Expr}
 use Rattle.pocket_types.specs.declared.expr.Expr.TheOpen as expr

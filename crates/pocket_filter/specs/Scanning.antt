@@ -1,5 +1,5 @@
 -- How far a scan of the lexer goes. That these are the longest tokens is a matter of proofs/.
-use Rattle.std.specs.Prelude.{◌≡◌, ◌≢◌, ℕ, suc, ◌+◌, ◌<◌, ◌≤◌, ◌==◌, ◌||◌, ◌&&◌, not, List, [], ◌∷◌, length, slice_index, Bool, true, false, if◌then◌else◌, Option, Some, None, option_map, IsTrue, ℤ, unsigned_abs, nat_lt, ◌^◌, ◌++◌, encode_utf8}
+use Rattle.std.specs.Prelude.{◌≡◌, ◌≢◌, ℕ, suc, ◌+◌, ◌<◌, ◌==◌, ◌||◌, ◌&&◌, not, List, [], ◌∷◌, length, slice_index, Bool, true, false, if◌then◌else◌, Option, Some, None, option_map, IsTrue, ℤ, unsigned_abs, nat_lt, ◌^◌, ◌++◌, encode_utf8}
 use Rattle.std.specs.Str.{IsCharBoundary}
 use Rattle.pocket_types.specs.Names.{is_digit, is_letter, is_word}
 use Rattle.pocket_types.specs.declared.expr.Op.{Op}

@@ -5,6 +5,7 @@ ghost use Rattle.std.specs.Str.{IsCharBoundary};
 ghost use Rattle.pocket_types.specs.Names.{is_digit, is_word};
 ghost use Rattle.pocket_filter.specs.Tokens.{placed, Lexeme, lexeme_of};
 ghost use Rattle.pocket_filter.specs.Lexing.{Lexes, IsNumber, is_blank, is_quote, op_text};
+ghost use Rattle.pocket_filter.specs.Stray.{StrayMarksAreBadBytes};
 ghost use Rattle.pocket_filter.specs.Scanning.{IsFirstPiece, Starts, class, in_line, begins_name as begins_name_of, op_of, mark_of, sign_len as sign_len_of, in_range, joins, path_len, closing};
 
 use crate::tokens::{Token, TokenKind};
@@ -50,6 +51,12 @@ pub fn tokens<'t>(alloc: Global, text: &'t str) -> Result<Vec<Token<'t>>, Filter
     }
     Ok(found)
 }
+
+/// The law of stray marks: a `.` or `:` after an ident that no name follows directly, and the second `:` of a part, are bad
+/// bytes at their places.
+pub fn stray_marks_are_bad_bytes()
+    ensures { StrayMarksAreBadBytes }
+{}
 
 /// What may begin with a byte.
 #[derive(Clone, Copy)]

@@ -9,5 +9,6 @@ mod printer;
 mod reading;
 mod tokens;
 
+pub use lexer::stray_marks_are_bad_bytes;
 pub use printer::{print, printed_filter_is_read};
 pub use reading::{parse, trees_are_determined};

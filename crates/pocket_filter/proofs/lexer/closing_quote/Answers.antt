@@ -1,4 +1,4 @@
-use Rattle.std.proofs.Common.{◌≡◌, ◌≢◌, ◌+◌, ◌==◌, ℕ, List, ◌∷◌, drop, true, false, get_or, refl, sym, ◌∙◌, ap, arith, ne_eqb}
+use Rattle.std.proofs.Common.{◌≡◌, ◌≢◌, ◌+◌, ◌==◌, ℕ, List, ◌∷◌, drop, false, get_or, refl, sym, ◌∙◌, ap, arith, ne_eqb}
 use Rattle.std.proofs.lemmas.List.{drop_more}
 use Rattle.pocket_filter.specs.Scanning.{closing}
 use Rattle.pocket_filter.proofs.lexer.closing_quote.Goals as goal

@@ -1,4 +1,4 @@
-use Rattle.std.proofs.Common.{◌≡◌, ◌≢◌, ◌<◌, slice_index, sym, ◌∙◌, ap, subst}
+use Rattle.std.proofs.Common.{◌<◌, slice_index, sym, ◌∙◌, ap, subst}
 use Rattle.std.specs.List.{prefix_len}
 use Rattle.std.specs.Str.{IsCharBoundary}
 use Rattle.pocket_filter.specs.Lexing.{is_blank, is_quote, TakesSeparator}

@@ -1,11 +1,10 @@
-use Rattle.std.proofs.Common.{◌≡◌, ◌<◌, ◌≤◌, ◌+◌, ℕ, length, drop, take, get_or, slice_index, false, true, refl, sym, ◌∙◌, ap, subst, arith, add-zero}
+use Rattle.std.proofs.Common.{◌≡◌, ◌<◌, ◌+◌, take, slice_index, false, refl, sym, ◌∙◌, ap, subst, arith}
 use Rattle.std.specs.Str.{IsCharBoundary}
-use Rattle.std.proofs.lemmas.List.{get_or-drop}
 use Rattle.pocket_filter.specs.Tokens.{Ident}
 use Rattle.pocket_filter.specs.Lexing.{TakesLongest}
 use Rattle.pocket_filter.specs.Scanning.{sign_len, begins_name, path_len}
 use Rattle.pocket_filter.proofs.Fronts.{slice_front, slice_rest, index_rest}
-use Rattle.pocket_filter.proofs.Idents.{after_sign, ident_len, ident_start, no_ident, ident_found}
+use Rattle.pocket_filter.proofs.Idents.{ident_len, ident_start, no_ident, ident_found}
 use Rattle.pocket_filter.proofs.lexer.ident.Goals as goal
 
 pub returns-then-not-begins_name : goal.returns-then-not-begins_name

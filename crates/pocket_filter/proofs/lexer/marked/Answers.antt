@@ -1,5 +1,4 @@
-use Rattle.std.proofs.Common.{◌≡◌, slice_index, None, Some, ap, sym, ◌∙◌, subst}
-use Rattle.pocket_filter.specs.Lexing.{is_quote}
+use Rattle.std.proofs.Common.{◌≡◌, slice_index, None, Some, subst}
 use Rattle.pocket_filter.specs.Tokens.{lexeme_of}
 use Rattle.pocket_filter.specs.Scanning.{mark_of}
 use Rattle.pocket_filter.proofs.Marks.{mark_found, mark_start, no_mark}

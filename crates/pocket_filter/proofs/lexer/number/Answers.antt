@@ -1,12 +1,12 @@
-use Rattle.std.proofs.Common.{◌≡◌, ◌≢◌, ◌<◌, ◌≤◌, ◌+◌, ◌^◌, ℕ, ℤ, List, length, drop, take, slice_index, Some, None, refl, sym, ◌∙◌, ap, subst, arith, w64}
+use Rattle.std.proofs.Common.{◌≡◌, ◌<◌, ◌+◌, ◌^◌, ℕ, ℤ, take, slice_index, refl, sym, ◌∙◌, ap, subst, arith, w64}
 use Rattle.std.specs.List.{prefix_len}
 use Rattle.std.specs.Str.{IsCharBoundary}
 use Rattle.std.specs.Int.RustNames.{unsigned_abs}
 use Rattle.std.proofs.lemmas.Int.{to_z-of_z, fits_signed_from_abs}
 use Rattle.pocket_types.specs.Names.{is_digit}
 use Rattle.pocket_filter.specs.Tokens.{Number}
-use Rattle.pocket_filter.specs.Lexing.{is_quote, is_blank, IsNumber, TakesLongest}
-use Rattle.pocket_filter.specs.Scanning.{sign_len, in_range}
+use Rattle.pocket_filter.specs.Lexing.{IsNumber, TakesLongest}
+use Rattle.pocket_filter.specs.Scanning.{sign_len}
 use Rattle.pocket_filter.proofs.Fronts.{slice_front, slice_rest}
 use Rattle.pocket_filter.proofs.Numbers.{number_len, number_start, no_number, number_found, range_some, range_none}
 use Rattle.pocket_filter.proofs.lexer.number.Goals as goal

@@ -1,4 +1,4 @@
-use Rattle.std.proofs.Common.{◌≡◌, ◌+◌, ◌==◌, ◌&&◌, drop, get_or, sym, ◌∙◌, ap, arith, add-zero}
+use Rattle.std.proofs.Common.{◌+◌, ◌&&◌, drop, get_or, sym, ◌∙◌, ap, arith, add-zero}
 use Rattle.std.proofs.lemmas.List.{drop_more, get_or-drop}
 use Rattle.pocket_types.specs.Names.{is_word}
 use Rattle.pocket_filter.specs.Scanning.{joins, path_len}

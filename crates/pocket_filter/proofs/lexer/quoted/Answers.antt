@@ -1,4 +1,4 @@
-use Rattle.std.proofs.Common.{◌≡◌, ◌+◌, ◌<◌, drop, false, Some, None, slice_index, sym, ◌∙◌, ap, subst, arith}
+use Rattle.std.proofs.Common.{◌+◌, sym, ◌∙◌, subst, arith}
 use Rattle.std.proofs.lemmas.List.{take_rest}
 use Rattle.pocket_filter.specs.Tokens.{Text}
 use Rattle.pocket_filter.specs.Lexing.{TakesLongest}

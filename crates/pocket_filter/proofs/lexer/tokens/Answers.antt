@@ -1,9 +1,9 @@
-use Rattle.std.proofs.Common.{◌≡◌, ◌-◌, ◌<◌, ◌≤◌, ◌++◌, ◌∷◌, ℕ, List, [], length, map, Option, Some, None, refl, sym, ap, ◌∙◌, subst, arith, append-nil}
+use Rattle.std.proofs.Common.{◌-◌, ◌++◌, ◌∷◌, [], length, map, Some, None, sym, ap, ◌∙◌, subst, arith, append-nil}
 use Rattle.std.proofs.lemmas.Bool.{eqb-false, eqb-true}
 use Rattle.std.proofs.lemmas.List.{nil_from_length}
 use Rattle.pocket_types.specs.declared.faults.FilterFault.TheVariants.{BadByte, OpenString, NumberRange}
 use Rattle.pocket_filter.specs.declared.tokens.Token.{Token}
-use Rattle.pocket_filter.specs.Tokens.{Lexeme, lexeme_of, placed}
+use Rattle.pocket_filter.specs.Tokens.{lexeme_of, placed}
 use Rattle.pocket_filter.specs.Lexing.{Lexes, done, over_range}
 use Rattle.pocket_filter.proofs.Readings.{after_separator, after_token, found_more, open_at, none_at}
 use Rattle.pocket_filter.proofs.lexer.tokens.Goals as goal

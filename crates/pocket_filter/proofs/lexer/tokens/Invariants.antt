@@ -1,4 +1,4 @@
-use Rattle.std.proofs.Common.{◌≡◌, ◌≤◌, ◌-◌, ◌++◌, ℕ, List, length, map, Option}
+use Rattle.std.proofs.Common.{◌≤◌, ◌-◌, ◌++◌, ℕ, List, length, map, Option}
 use denote.Text.{Utf8}
 use denote.Shadow.{shadow}
 use Rattle.pocket_types.specs.declared.faults.FilterFault.{FilterFault}

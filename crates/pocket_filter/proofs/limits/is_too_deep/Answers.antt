@@ -1,5 +1,4 @@
-use Rattle.std.proofs.Common.{◌≡◌, ◌+◌, map, refl, sym, ap, subst, ◌∙◌, arith, take}
-use Rattle.pocket_filter.specs.Faults.{open_after}
+use Rattle.std.proofs.Common.{◌+◌, refl, ◌∙◌, arith}
 use Rattle.pocket_filter.proofs.Depths.{all, open_more, shallow_more}
 use Rattle.pocket_filter.proofs.limits.is_too_deep.Goals as goal
 

@@ -1,4 +1,4 @@
-use Rattle.std.proofs.Common.{◌≡◌, ◌-◌, length, take, drop, slice_index, IfOk, sym, ◌∙◌, ap, subst, arith}
+use Rattle.std.proofs.Common.{◌≡◌, ◌-◌, length, take, drop, slice_index, IfOk, ◌∙◌, ap, subst, arith}
 use Rattle.pocket_filter.specs.Operands.{unescaped, inner}
 use Rattle.pocket_filter.proofs.operands.text_given.Goals as goal
 

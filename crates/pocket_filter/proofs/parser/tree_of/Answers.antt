@@ -1,7 +1,7 @@
-use Rattle.std.proofs.Common.{◌≡◌, Some, Err, IfErr, map, refl, sym, ap, subst, ◌∙◌, arith, rules}
+use Rattle.std.proofs.Common.{map, arith}
 use Rattle.std.proofs.lemmas.Result.{IfErr-weaker, IfOk-weaker}
 use Rattle.pocket_filter.specs.Faults.{lexemes, AreRefused}
-use Rattle.pocket_filter.specs.Parsing.{feeds, start, state_of}
+use Rattle.pocket_filter.specs.Parsing.{state_of}
 use Rattle.pocket_filter.specs.Tokens.{placed}
 use Rattle.pocket_filter.proofs.Holding.{finished}
 use Rattle.pocket_filter.proofs.Refusals.{taken, token_refused, end_refused, all_taken, passed_on}

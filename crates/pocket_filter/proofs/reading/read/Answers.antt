@@ -1,4 +1,4 @@
-use Rattle.std.proofs.Common.{◌≡◌, ◌≢◌, ◌≤◌, IfErr, length, refl, sym, ap, subst, ◌∙◌, arith, rules}
+use Rattle.std.proofs.Common.{◌≢◌, ◌≤◌, length, arith, rules}
 use Rattle.pocket_types.specs.declared.faults.FilterFault.TheVariants as faults
 use Rattle.pocket_filter.specs.Filters.{IsFault}
 use Rattle.pocket_filter.proofs.Refusals.{passed_on}

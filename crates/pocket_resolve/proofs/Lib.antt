@@ -1,0 +1,3 @@
+pub mod ViaLemmas
+pub mod FieldLemmas
+pub mod FilterLemmas

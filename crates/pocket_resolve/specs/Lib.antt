@@ -1,0 +1,7 @@
+pub mod Answers
+pub mod Fields
+pub mod Names
+pub mod Paths
+pub mod Roots
+pub mod Filters
+pub mod Seen

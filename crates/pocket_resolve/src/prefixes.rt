@@ -1,0 +1,61 @@
+// How many different prefixes a filter has.
+ghost use Rattle.std.specs.Prelude.{◌≡◌, ◌≤◌, IfOk, length, fold, flat_map, count_by};
+ghost use Rattle.pocket_types.specs.Paths.{with_prefix, begun};
+ghost use Rattle.pocket_resolve.specs.Filters.{filter_prefixes, is_counted as counted, has_too_many as too_many};
+
+use pocket_types::{Prefix, Resolved, Root};
+use std::alloc::{AllocError, Global};
+
+const MAX_PREFIXES: usize = 12;
+
+/// Whether a prefix counts: the record itself, the caller's record and the body don't.
+fn is_counted(prefix: &Prefix) -> bool
+    ensures { result ≡ counted prefix.now }
+{
+    match prefix.root {
+        Root::Look(..) => true,
+        Root::Home | Root::Auth | Root::Body => !prefix.steps.as_slice().is_empty(),
+    }
+}
+
+fn count(prefixes: &[Prefix]) -> usize
+    ensures value { result ≡ count_by counted prefixes.now }
+    ensures within { result ≤ length prefixes.now }
+{
+    match prefixes {
+        [] => 0,
+        [first, rest @ ..] => {
+            let others = count(rest);
+            if is_counted(first) {
+                others + 1
+            } else {
+                others
+            }
+        }
+    }
+}
+
+/// Adds the prefixes of a filter's sides to those that were found.
+fn add_prefixes(found: &mut Vec<Prefix>, filter: &Resolved) -> Result<(), AllocError>
+    ensures { IfOk result (λ _. found.new.items ≡ fold with_prefix found.old.items (flat_map begun (filter_prefixes filter.now))) }
+{
+    match filter {
+        Resolved::Test { left, right, .. } => {
+            left.add_prefixes(found)?;
+            right.add_prefixes(found)
+        }
+        Resolved::And(a, b) | Resolved::Or(a, b) => {
+            add_prefixes(found, a.get())?;
+            add_prefixes(found, b.get())
+        }
+    }
+}
+
+/// Whether a filter has too many different prefixes.
+pub fn has_too_many(alloc: Global, filter: &Resolved) -> Result<bool, AllocError>
+    ensures { IfOk result (λ b. b ≡ too_many filter.now) }
+{
+    let mut found = Vec::new(alloc);
+    add_prefixes(&mut found, filter)?;
+    Ok(count(found.as_slice()) > MAX_PREFIXES)
+}

@@ -1,0 +1,33 @@
+ghost use Rattle.std.specs.Prelude.{◌≡◌, ◌≢◌, Ok, Err, IfOk, IfErr};
+ghost use Rattle.pocket_types.specs.declared.faults.ResolveFault.TheVariants as fault;
+ghost use Rattle.pocket_resolve.specs.Filters.{resolution};
+
+use crate::filters::filter_at;
+use crate::prefixes::has_too_many;
+use crate::purpose::Purpose;
+use pocket_types::{Collection, Expr, ResolveFault, Resolved};
+use std::alloc::Global;
+
+/// The filter of an expression, its names looked up in the collections. A fault is the first, of operands from the left
+/// and in each of its parts from the left; too many prefixes come after all operands.
+///
+/// Time grows with the expression's text times the number of collections and fields, and with the square of the number
+/// of different prefixes in it.
+#[tactic(auto, unfolding(crate::specs::Filters::resolution))]
+pub fn resolve(
+    alloc: Global,
+    collections: &[Collection],
+    purpose: &Purpose,
+    expr: &Expr,
+) -> Result<Resolved, ResolveFault>
+    ensures ok { IfOk result (λ filter. resolution collections.now purpose.now expr.now ≡ Ok filter) }
+    ensures fault { IfErr result
+        (λ e. e ≢ fault.Memory → resolution collections.now purpose.now expr.now ≡ Err e) }
+{
+    let mut number = 0;
+    let filter = filter_at(alloc, collections, purpose, expr, &mut number)?;
+    if has_too_many(alloc, &filter)? {
+        return Err(ResolveFault::TooManyPrefixes);
+    }
+    Ok(filter)
+}
