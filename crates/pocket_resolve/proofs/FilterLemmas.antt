@@ -8,6 +8,7 @@ use Rattle.pocket_types.specs.declared.expr.Operand.{Operand}
 use Rattle.pocket_types.specs.declared.faults.ResolveFault.{ResolveFault}
 use Rattle.pocket_types.specs.declared.records.Collection.{Collection}
 use Rattle.pocket_types.specs.declared.faults.ResolveFault.TheVariants as fault
+use Rattle.pocket_types.specs.declared.resolved.Leaf.{Leaf}
 use Rattle.pocket_types.specs.declared.resolved.Resolved.{Resolved, the_lemmas}
 use Rattle.pocket_types.specs.declared.resolved.Resolved.TheVariants as made
 use Rattle.pocket_types.specs.declared.resolved.Resolved.TheOpen as resolved
@@ -43,10 +44,13 @@ pub from_or : (collections : List Collection) (p : Purpose) (a b : Expr) (n : �
 unfolding filter_from
 from_or collections p a b n = ap (λ (f : Answer). f n) (expr_or Answer (filter_step collections p) a b)
 
-same_and : (a b : Resolved) → made.And a b ≡ roll-Resolved (resolved.And a b)
+pub same_test : (l : Leaf) (any : Bool) (o : Op) (r : Leaf) → made.Test l any o r ≡ roll-Resolved (resolved.Test l any o r)
+same_test l any o r = search (rules, the_lemmas)
+
+pub same_and : (a b : Resolved) → made.And a b ≡ roll-Resolved (resolved.And a b)
 same_and a b = search (rules, the_lemmas)
 
-same_or : (a b : Resolved) → made.Or a b ≡ roll-Resolved (resolved.Or a b)
+pub same_or : (a b : Resolved) → made.Or a b ≡ roll-Resolved (resolved.Or a b)
 same_or a b = search (rules, the_lemmas)
 
 -- what both sides of a join give, the join gives

@@ -1,3 +1,4 @@
 pub mod ViaLemmas
 pub mod FieldLemmas
 pub mod FilterLemmas
+pub mod Typed

@@ -4,4 +4,5 @@ pub mod Names
 pub mod Paths
 pub mod Roots
 pub mod Filters
+pub mod Typing
 pub mod Seen

@@ -1,6 +1,7 @@
 ghost use Rattle.std.specs.Prelude.{◌≡◌, ◌≢◌, Ok, Err, IfOk, IfErr};
 ghost use Rattle.pocket_types.specs.declared.faults.ResolveFault.TheVariants as fault;
-ghost use Rattle.pocket_resolve.specs.Filters.{resolution};
+ghost use Rattle.pocket_resolve.specs.Filters.{home_of, resolution};
+ghost use Rattle.pocket_resolve.specs.Typing.{IsTyped};
 
 use crate::filters::filter_at;
 use crate::prefixes::has_too_many;
@@ -10,6 +11,7 @@ use std::alloc::Global;
 
 /// The filter of an expression, its names looked up in the collections. A fault is the first, of operands from the left
 /// and in each of its parts from the left; too many prefixes come after all operands.
+/// A filter that it gives is typed: each name in it stands for something that the collections have.
 ///
 /// Time grows with the expression's text times the number of collections and fields, and with the square of the number
 /// of different prefixes in it.
@@ -21,6 +23,7 @@ pub fn resolve(
     expr: &Expr,
 ) -> Result<Resolved, ResolveFault>
     ensures ok { IfOk result (λ filter. resolution collections.now purpose.now expr.now ≡ Ok filter) }
+    ensures typed { IfOk result (λ filter. IsTyped collections.now (home_of purpose.now) filter) }
     ensures fault { IfErr result
         (λ e. e ≢ fault.Memory → resolution collections.now purpose.now expr.now ≡ Err e) }
 {
