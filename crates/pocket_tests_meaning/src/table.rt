@@ -226,7 +226,11 @@ fn rules_hold_as_worked_out(rt: HostRuntime) -> Result<(), Fail> {
     for line in cases().lines() {
         if let Some((place, rest)) = line.split_once(": ") {
             let (text, wanted) = rest.rsplit_once(" => ").ok_or("no truth")?;
-            assert_eq!(rt; truth(alloc, &world, place, text)?, wanted == "true", "{line}");
+            assert_eq!(rt;
+                truth(alloc, &world, place, text)?,
+                wanted == "true",
+                "{line}"
+            );
         }
     }
     Ok(())

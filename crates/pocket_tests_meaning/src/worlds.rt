@@ -1,7 +1,8 @@
 // A small world from short texts.
 use pocket_ops::date_read;
 use pocket_types::{
-    Cell, Collection, Field, Id, Jv, Kind, Moment, Name, Pair, Rec, Rule, Sent, Seq, Shelf, Text, World,
+    Cell, Collection, Field, Id, Jv, Kind, Moment, Name, Pair, Rec, Rule, Sent, Seq, Shelf, Text,
+    World,
 };
 use std::alloc::Global;
 use std::test::Fail;
