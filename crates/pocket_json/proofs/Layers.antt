@@ -7,7 +7,7 @@ use Rattle.pocket_types.specs.declared.json.Jv.TheOpen as jv
 use Rattle.pocket_types.specs.declared.json.Jv.TheViews.{roll-Jv}
 use Rattle.pocket_types.specs.declared.json.Member.{fold-Member}
 use Rattle.pocket_json.specs.Profile.{rise, rising_step, rising_member, keys_rise, small_step, small_member, numbers_small, greatest, levels_step, levels_member, levels}
-use Rattle.pocket_json.specs.Reading.{member_of, map_of}
+use Rattle.pocket_types.specs.Maps.{member_of, map_jv}
 
 abbrev pub Entries : Type 0
 Entries = List (List ℕ × Jv)
@@ -49,13 +49,13 @@ small_list vs = fold-roll-Jv Bool Bool small_step small_member (jv.List vs) ∙ 
 pub levels_list : (vs : List Jv) → levels (roll-Jv (jv.List vs)) ≡ suc (greatest (map levels vs))
 levels_list vs = fold-roll-Jv ℕ ℕ levels_step levels_member (jv.List vs)
 
-pub rising_map : (es : Entries) → keys_rise (map_of es) ≡ (rise (keys es) && list_all (λ e. keys_rise e.1) es)
+pub rising_map : (es : Entries) → keys_rise (map_jv es) ≡ (rise (keys es) && list_all (λ e. keys_rise e.1) es)
 rising_map es =
     fold-roll-Jv Bool (List ℕ × Bool) rising_step rising_member (jv.Map (map member_of es)) ∙ ap (λ ms. rise (map (λ m. m.0) ms) && list_all (λ m. m.1) ms) (rising_members es)
     ∙ rw (keys_again es, values_again es) refl
 
-pub small_map : (es : Entries) → numbers_small (map_of es) ≡ list_all (λ e. numbers_small e.1) es
+pub small_map : (es : Entries) → numbers_small (map_jv es) ≡ list_all (λ e. numbers_small e.1) es
 small_map es = fold-roll-Jv Bool Bool small_step small_member (jv.Map (map member_of es)) ∙ ap (list_all (λ b. b)) (small_members es) ∙ all_mapped (λ e. numbers_small e.1) es
 
-pub levels_map : (es : Entries) → levels (map_of es) ≡ suc (greatest (map (λ e. levels e.1) es))
+pub levels_map : (es : Entries) → levels (map_jv es) ≡ suc (greatest (map (λ e. levels e.1) es))
 levels_map es = fold-roll-Jv ℕ ℕ levels_step levels_member (jv.Map (map member_of es)) ∙ ap (λ ns. suc (greatest ns)) (levels_members es)

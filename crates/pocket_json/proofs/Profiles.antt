@@ -21,7 +21,8 @@ use Rattle.pocket_types.specs.declared.json.Jv.TheOpen as jv
 use Rattle.pocket_types.specs.declared.json.Jv.TheViews.{roll-Jv}
 use Rattle.pocket_types.specs.declared.json.Jv.TheFolds.{fold-roll-Jv}
 use Rattle.pocket_json.specs.Profile.{rise, rise_from, rising_step, rising_member, keys_rise, size_of, small_step, small_member, numbers_small, greatest, levels_step, levels_member, levels, IsProfiled}
-use Rattle.pocket_json.specs.Reading.{from_zero, below_zero, whole_of, map_of, put, tree_of, trees_of, entries_of, document, read}
+use Rattle.pocket_types.specs.Maps.{map_jv, put}
+use Rattle.pocket_json.specs.Reading.{from_zero, below_zero, whole_of, tree_of, trees_of, entries_of, document, read}
 use Rattle.pocket_json.proofs.Layers.{Entries, keys, rising_list, small_list, levels_list, rising_map, small_map, levels_map}
 
 -- ---- options
@@ -85,7 +86,7 @@ rise_from_put low (e ∷ es) key v below h =
     by Equal is parts more = and_from _ _ parts.0 parts.1
     by Greater is parts more = and_from _ _ parts.0 (more (is_before_from e.0 key (before_from_after key e.0 is)))
 
-rise_put : (es : Entries) (key : List ℕ) (v : Jv) → rise (keys es) ≡ true → rise (keys (put key v es)) ≡ true
+pub rise_put : (es : Entries) (key : List ℕ) (v : Jv) → rise (keys es) ≡ true → rise (keys (put key v es)) ≡ true
 unfolding put
 rise_put [] key v h = refl
 rise_put (e ∷ es) key v h = by (slice_cmp nat_cmp key e.0) refl
@@ -98,18 +99,18 @@ rise_put (e ∷ es) key v h = by (slice_cmp nat_cmp key e.0) refl
 
 -- ---- trees with at most so many levels
 
-abbrev Fine : ℕ → Jv → Type 0
+abbrev pub Fine : ℕ → Jv → Type 0
 Fine d v = (keys_rise v ≡ true) × (numbers_small v ≡ true) × (levels v ≤ d)
 
-abbrev AllFine : ℕ → List Jv → Type 0
+abbrev pub AllFine : ℕ → List Jv → Type 0
 AllFine d [] = ⊤
 AllFine d (v ∷ vs) = Fine d v × AllFine d vs
 
-abbrev EntriesFine : ℕ → Entries → Type 0
+abbrev pub EntriesFine : ℕ → Entries → Type 0
 EntriesFine d [] = ⊤
 EntriesFine d (e ∷ es) = Fine d e.1 × EntriesFine d es
 
-fine_more : (d e : ℕ) (v : Jv) → d ≤ e → Fine d v → Fine e v
+pub fine_more : (d e : ℕ) (v : Jv) → d ≤ e → Fine d v → Fine e v
 fine_more d e v h f = (f.0, f.1, omega (arith, f.2))
 
 all_more : (d e : ℕ) (vs : List Jv) → d ≤ e → AllFine d vs → AllFine e vs
@@ -125,15 +126,15 @@ entries_fine : (d : ℕ) (es : Entries) → EntriesFine d es
 entries_fine d [] f = (refl, refl, omega arith)
 entries_fine d (e ∷ es) f = let more = entries_fine d es f.1 in (and_from _ _ f.0.0 more.0, and_from _ _ f.0.1 more.1, omega (arith, f.0.2, more.2))
 
-fine_list : (d : ℕ) (vs : List Jv) → AllFine d vs → Fine (suc d) (roll-Jv (jv.List vs))
+pub fine_list : (d : ℕ) (vs : List Jv) → AllFine d vs → Fine (suc d) (roll-Jv (jv.List vs))
 fine_list d vs f = let all = list_fine d vs f in (rising_list vs ∙ all.0, small_list vs ∙ all.1, omega (arith, levels_list vs, all.2))
 
-fine_map : (d : ℕ) (es : Entries) → EntriesFine d es → rise (keys es) ≡ true → Fine (suc d) (map_of es)
+pub fine_map : (d : ℕ) (es : Entries) → EntriesFine d es → rise (keys es) ≡ true → Fine (suc d) (map_jv es)
 fine_map d es f r =
     let all = entries_fine d es f in
     (rising_map es ∙ and_from _ _ r all.0, small_map es ∙ all.1, omega (arith, levels_map es, all.2))
 
-put_fine : (d : ℕ) (key : List ℕ) (v : Jv) (es : Entries) → Fine d v → EntriesFine d es → EntriesFine d (put key v es)
+pub put_fine : (d : ℕ) (key : List ℕ) (v : Jv) (es : Entries) → Fine d v → EntriesFine d es → EntriesFine d (put key v es)
 unfolding put
 put_fine d key v [] f g = (f, tt)
 put_fine d key v (e ∷ es) f g = by (slice_cmp nat_cmp key e.0) (put_fine d key v es f g.1)
@@ -162,7 +163,7 @@ mutual
       let found = map_some (λ vs. roll-Jv (jv.List vs)) (trees_of js) v h in
       subst (Fine (suc (items_depth js))) found.2 (fine_list (items_depth js) found.0 (trees_fine js found.0 found.1))
   tree_fine (json.object ms) v h =
-      let found = map_some map_of (entries_of ms []) v h in
+      let found = map_some map_jv (entries_of ms []) v h in
       let all = members_fine ms [] found.0 (members_depth ms) (omega arith) tt refl found.1 in
       subst (Fine (suc (members_depth ms))) found.2 (fine_map (members_depth ms) found.0 all.0 all.1)
 

@@ -21,7 +21,8 @@ use Rattle.pocket_types.specs.declared.json.Jv.TheViews.{roll-Jv, roll-Member}
 use Rattle.pocket_types.specs.declared.json.Member.{Member, fold-Member}
 use Rattle.pocket_types.proofs.OrderLemmas.{before_from, before_trans, after_from_before}
 use Rattle.pocket_json.specs.Profile.{rise, rise_from, keys_rise, numbers_small, greatest, levels, small_step, small_member, levels_step, levels_member, size_of, IsProfiled}
-use Rattle.pocket_json.specs.Reading.{member_of, map_of, put, tree_of, trees_of, entries_of, document, read}
+use Rattle.pocket_types.specs.Maps.{member_of, map_jv, put}
+use Rattle.pocket_json.specs.Reading.{tree_of, trees_of, entries_of, document, read}
 use Rattle.pocket_json.proofs.Layers.{Entries, keys, rising_list, small_list, levels_list, rising_map, small_map, levels_map}
 use Rattle.pocket_json.proofs.Numerals.{whole_printed, number_printed}
 use Rattle.pocket_json.proofs.Outlines.{text_of, items_text, members_text, same_quoted, print_is}
@@ -58,7 +59,7 @@ json_pairs (e ∷ es) = rw (fold-roll-Member json.Json (List ℕ × json.Json) j
 json_list : (vs : List Jv) → json_of (roll-Jv (jv.List vs)) ≡ json.array (items_of (map json_of vs))
 json_list vs = fold-roll-Jv json.Json (List ℕ × json.Json) json_step json_member (jv.List vs)
 
-json_map : (es : Entries) → json_of (map_of es) ≡ json.object (pairs_json es)
+json_map : (es : Entries) → json_of (map_jv es) ≡ json.object (pairs_json es)
 json_map es = fold-roll-Jv json.Json (List ℕ × json.Json) json_step json_member (jv.Map (map member_of es)) ∙ ap json.object (json_pairs es)
 
 -- ---- what is shown of each tree
@@ -207,7 +208,7 @@ map_reads (e ∷ es) found r h k s =
     let here : entries_of (pairs_json (e ∷ es)) found ≡ entries_of (pairs_json es) (put e.0 e.1 found) = rw (first.1) refl in
     ((first.0, more.0), here ∙ ap (entries_of (pairs_json es)) (last_put found e.0 e.1 es h) ∙ more.1 ∙ ap Some same)
 
-round_map : (es : Entries) → EntriesRound es → Round (map_of es)
+round_map : (es : Entries) → EntriesRound es → Round (map_jv es)
 round_map es r = record {
   text = fold-roll-Jv (List ℕ) (List ℕ) value_text member_text (jv.Map (map member_of es)) ∙ ap (λ ts. 123 ∷ join_with_byte 44 ts ++ 125 ∷ []) (pair_texts es)
       ∙ ap (λ s. 123 ∷ s) (map_text es r) ∙ ap text_of (sym (json_map es));
@@ -215,7 +216,7 @@ round_map es r = record {
   reads = λ k s.
       let ks = and_parts (rise (keys es)) (list_all (λ e. keys_rise e.1) es) (sym (rising_map es) ∙ k) in
       let all = map_reads es [] r ks.0 ks.1 (sym (small_map es) ∙ s) in
-      subst (λ j. HasNumbers j × (tree_of j ≡ Some (map_of es))) (sym (json_map es)) (all.0, ap (option_map map_of) all.1);
+      subst (λ j. HasNumbers j × (tree_of j ≡ Some (map_jv es))) (sym (json_map es)) (all.0, ap (option_map map_jv) all.1);
 }
 
 -- ---- each tree

@@ -2,7 +2,8 @@
 use Rattle.std.proofs.Common.{◌≡◌, ℕ, List, [], ◌∷◌, ◌++◌, Option, Some, None, option_map, append_assoc, refl, sym, ap}
 use Rattle.json.specs.Json as json
 use Rattle.pocket_types.specs.declared.json.Jv.{Jv}
-use Rattle.pocket_json.specs.Reading.{put, tree_of, trees_of, entries_of}
+use Rattle.pocket_types.specs.Maps.{put}
+use Rattle.pocket_json.specs.Reading.{tree_of, trees_of, entries_of}
 
 one_more : (vs : List Jv) (v : Jv) (r : Option (List Jv)) → option_map (λ more. vs ++ more) (option_map (λ more. v ∷ more) r) ≡ option_map (λ more. (vs ++ v ∷ []) ++ more) r
 one_more vs v None = refl

@@ -1,16 +1,13 @@
 -- The tree that bytes are: JSON whose numbers are whole and below 2^53 in size, with at most 32 levels.
-use Rattle.std.specs.Prelude.{◌≡◌, ℕ, ◌^◌, ◌==◌, ◌&&◌, ℤ, pos, neg_ℤ, List, [], ◌∷◌, drop, map, slice_index, nat_lt, if◌then◌else◌, Option, Some, None, option_map, option_and_then, IsUtf8}
-use Rattle.std.specs.BTreeMap.{insert_entry}
-use Rattle.std.specs.Cmp.Lexicographic.{slice_cmp}
-use Rattle.std.specs.Ordering.{nat_cmp}
+use Rattle.std.specs.Prelude.{◌≡◌, ℕ, ◌^◌, ◌==◌, ◌&&◌, ℤ, pos, neg_ℤ, List, [], ◌∷◌, drop, slice_index, nat_lt, if◌then◌else◌, Option, Some, None, option_map, option_and_then, IsUtf8}
 use Rattle.fast_float.specs.Text.{minus, Parts, scan, digits_of}
 use Rattle.json.specs.Json as json
 use Rattle.json.specs.Lex.{tokens}
 use Rattle.serde_json.specs.Read.{is_integer}
 use Rattle.pocket_types.specs.declared.json.Jv.{Jv}
 use Rattle.pocket_types.specs.declared.json.Jv.TheOpen as jv
-use Rattle.pocket_types.specs.declared.json.Jv.TheViews.{roll-Jv, roll-Member}
-use Rattle.pocket_types.specs.declared.json.Member.{Member}
+use Rattle.pocket_types.specs.declared.json.Jv.TheViews.{roll-Jv}
+use Rattle.pocket_types.specs.Maps.{map_jv, put}
 
 -- ---- numbers
 
@@ -28,18 +25,6 @@ whole_of s = if slice_index s 0 == minus then below_zero (scan (drop 1 s)) else 
 
 -- ---- trees
 
--- a member of a map
-abbrev pub member_of : List ℕ × Jv → Member
-member_of m = roll-Member (record { key = m.0; value = m.1 })
-
--- a map of keys with their values
-abbrev pub map_of : List (List ℕ × Jv) → Jv
-map_of entries = roll-Jv (jv.Map (map member_of entries))
-
--- Entries in the order of the bytes of their keys, with one more. Of equal keys the later value counts.
-unfoldable pub put : List ℕ → Jv → List (List ℕ × Jv) → List (List ℕ × Jv)
-put key value entries = insert_entry (slice_cmp nat_cmp) entries key value
-
 -- the tree of a value of the grammar, whose numbers must be of the profile, also where a later key replaces them
 abbrev mutual
   pub tree_of : json.Json → Option Jv
@@ -48,7 +33,7 @@ abbrev mutual
   tree_of (json.number s) = option_map (λ n. roll-Jv (jv.Num n)) (whole_of s)
   tree_of (json.string s) = Some (roll-Jv (jv.Text s))
   tree_of (json.array js) = option_map (λ trees. roll-Jv (jv.List trees)) (trees_of js)
-  tree_of (json.object ms) = option_map map_of (entries_of ms [])
+  tree_of (json.object ms) = option_map map_jv (entries_of ms [])
 
   pub trees_of : json.Items → Option (List Jv)
   trees_of json.no_items = Some []

@@ -1,7 +1,8 @@
 // Values of the grammar as trees.
 ghost use Rattle.std.specs.Prelude.{◌≡◌, Some, None, Err, [], IfOk, OnOk};
 ghost use Rattle.json.specs.Value.{value_view, items_view, members_view};
-ghost use Rattle.pocket_json.specs.Reading.{tree_of, trees_of, entries_of, map_of, put};
+ghost use Rattle.pocket_types.specs.Maps.{map_jv, put};
+ghost use Rattle.pocket_json.specs.Reading.{tree_of, trees_of, entries_of};
 
 use crate::faults::JsonFault;
 use crate::numbers::whole;
@@ -61,7 +62,7 @@ fn entries(alloc: Global, members: &Vec<(&str, Value<'_>)>) -> Result<BTreeMap<T
 }
 
 /// Puts an entry among those found; of equal keys the later value counts.
-#[tactic(auto, unfolding(crate::specs::Reading::put))]
+#[tactic(auto, unfolding(pocket_types::specs::Maps::put))]
 fn put(found: &mut BTreeMap<Text, Jv>, key: Text, value: Jv) -> Result<(), AllocError>
     ensures { OnOk result (found.new.entries ≡ put key value found.old.entries) }
 {
@@ -71,7 +72,7 @@ fn put(found: &mut BTreeMap<Text, Jv>, key: Text, value: Jv) -> Result<(), Alloc
 
 /// A map of entries.
 fn map_jv(alloc: Global, entries: BTreeMap<Text, Jv>) -> Result<Jv, AllocError>
-    ensures { IfOk result (λ tree. tree ≡ map_of entries.entries) }
+    ensures { IfOk result (λ tree. tree ≡ map_jv entries.entries) }
 {
     let mut members = Vec::new(alloc);
     for (key, value) in entries {

@@ -18,7 +18,8 @@ use Rattle.pocket_types.specs.Names.{is_name, is_id}
 use Rattle.pocket_types.specs.Json.{printed, quoted, escape_byte}
 use Rattle.pocket_keeper.specs.declared.rows.KeptRow.{KeptRow}
 use Rattle.pocket_ops.specs.Dates.{date_text}
-use Rattle.pocket_ops.specs.Trees.{put, put_cells, text_jv, map_jv, rec_members}
+use Rattle.pocket_types.specs.Maps.{put, map_jv}
+use Rattle.pocket_ops.specs.Trees.{put_cells, text_jv, rec_members}
 use Rattle.pocket_keeper.specs.Dates.{plain_moment}
 use Rattle.pocket_keeper.proofs.PlainDates.{date_text_of_plain}
 use Rattle.pocket_keeper.specs.Parts.{before_field, behind_field, to_created, to_updated, plain_field, plain_rec, plain_rec_text}

@@ -5,7 +5,8 @@ use Rattle.std.specs.List.{join_with_byte, list_all}
 use Rattle.pocket_types.specs.declared.json.Jv.{Jv}
 use Rattle.pocket_types.specs.Json.{printed, quoted, escape_byte}
 use Rattle.pocket_ops.specs.Printing.{pair_text, printed_text, printed_null, printed_flag, printed_num, printed_map}
-use Rattle.pocket_ops.specs.Trees.{flag_jv, num_jv, map_jv, rule_jv}
+use Rattle.pocket_types.specs.Maps.{map_jv}
+use Rattle.pocket_ops.specs.Trees.{flag_jv, num_jv, rule_jv}
 use Rattle.pocket_keeper.specs.Parts.{HasNoByte, rule_of, rule_text}
 use Rattle.pocket_types.specs.Names.{is_name, is_word}
 use Rattle.std.proofs.lemmas.Bool.Decides.{nat_tests}

@@ -5,7 +5,8 @@ use Rattle.pocket_types.specs.declared.records.Collection.{Collection}
 use Rattle.pocket_types.specs.declared.records.Rec.{Rec}
 use Rattle.pocket_types.specs.Json.{printed}
 use Rattle.pocket_ops.specs.Dates.{date_text}
-use Rattle.pocket_ops.specs.Trees.{text_jv, map_jv, collection_jv, kept_jv}
+use Rattle.pocket_types.specs.Maps.{map_jv}
+use Rattle.pocket_ops.specs.Trees.{text_jv, collection_jv, kept_jv}
 use Rattle.pocket_keeper.specs.declared.rows.KeptRow.{KeptRow}
 use Rattle.pocket_keeper.specs.declared.tokens.Token.{Token}
 

@@ -1,7 +1,8 @@
 // The rows that keep collections, records and tokens.
 ghost use Rattle.std.specs.Prelude.{◌≡◌, [], ◌∷◌, ◌++◌, IfOk, map};
 ghost use Rattle.pocket_ops.specs.Dates.{date_text};
-ghost use Rattle.pocket_ops.specs.Trees.{map_jv, member_of, text_jv};
+ghost use Rattle.pocket_types.specs.Maps.{map_jv, member_of};
+ghost use Rattle.pocket_ops.specs.Trees.{text_jv};
 ghost use Rattle.pocket_keeper.specs.Texts.{collection_row, rec_row, token_members, token_row};
 
 use crate::rows::KeptRow;

@@ -23,7 +23,8 @@ use Rattle.pocket_types.specs.Json.{printed, printed_member, quoted, comma_befor
 use Rattle.pocket_ops.specs.Dates.{date_text}
 use Rattle.pocket_ops.specs.Lengths.{held, row_len, are_apart, is_undated, has_own_names}
 use Rattle.pocket_ops.specs.Printing.{pair_text, printed_text, printed_list, printed_map}
-use Rattle.pocket_ops.specs.Trees.{put, put_cells, text_jv, list_jv, map_jv, one_jv, items_jv, date_jv, cell_jv, date_members, rec_members}
+use Rattle.pocket_types.specs.Maps.{put, map_jv}
+use Rattle.pocket_ops.specs.Trees.{put_cells, text_jv, list_jv, one_jv, items_jv, date_jv, cell_jv, date_members, rec_members}
 
 -- ---- numbers that are held
 

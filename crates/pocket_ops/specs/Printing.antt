@@ -7,7 +7,8 @@ use Rattle.pocket_types.specs.declared.json.Jv.{Jv}
 use Rattle.pocket_types.specs.declared.json.Jv.TheFolds.{fold-roll-Jv, fold-roll-Member}
 use Rattle.pocket_types.specs.declared.json.Jv.TheOpen as jv
 use Rattle.pocket_types.specs.Json.{printed, printed_member, quoted, value_text, member_text}
-use Rattle.pocket_ops.specs.Trees.{text_jv, null_jv, flag_jv, num_jv, list_jv, map_jv, member_of}
+use Rattle.pocket_types.specs.Maps.{map_jv, member_of}
+use Rattle.pocket_ops.specs.Trees.{text_jv, null_jv, flag_jv, num_jv, list_jv}
 
 -- a key, a colon and a value's text
 abbrev pub pair_text : List ℕ × Jv → List ℕ

@@ -1,11 +1,7 @@
 -- The JSON trees of cells, records, fields and collections.
 use Rattle.std.specs.Prelude.{ℕ, List, [], ◌∷◌, ◌++◌, codes, map, Bool, true, if◌then◌else◌, ◌&&◌, not, nat_le, ℤ, pos, Option, Some, None}
-use Rattle.std.specs.Ordering.{nat_cmp}
-use Rattle.std.specs.Cmp.Lexicographic.{slice_cmp}
-use Rattle.std.specs.BTreeMap.{insert_entry}
 use Rattle.pocket_types.specs.declared.json.Jv.{Jv}
-use Rattle.pocket_types.specs.declared.json.Member.{Member}
-use Rattle.pocket_types.specs.declared.json.Jv.TheViews.{roll-Jv, roll-Member}
+use Rattle.pocket_types.specs.declared.json.Jv.TheViews.{roll-Jv}
 use Rattle.pocket_types.specs.declared.json.Jv.TheOpen as jv
 use Rattle.pocket_types.specs.declared.moments.Moment.{Moment}
 use Rattle.pocket_types.specs.declared.records.Cell.{Cell}
@@ -18,6 +14,7 @@ use Rattle.pocket_types.specs.declared.records.Rule.TheVariants as rule
 use Rattle.pocket_types.specs.declared.records.Collection.{Collection}
 use Rattle.pocket_types.specs.declared.records.Rec.{Rec}
 use Rattle.pocket_types.specs.Kinds.{most_of}
+use Rattle.pocket_types.specs.Maps.{map_jv, put}
 use Rattle.pocket_ops.specs.Cells.{texts_jv}
 use Rattle.pocket_ops.specs.Dates.{date_text}
 
@@ -37,17 +34,6 @@ text_jv t = roll-Jv (jv.Text t)
 
 abbrev pub list_jv : List Jv → Jv
 list_jv items = roll-Jv (jv.List items)
-
-abbrev pub member_of : List ℕ × Jv → Member
-member_of m = roll-Member (record { key = m.0; value = m.1 })
-
--- a map of keys with their values
-abbrev pub map_jv : List (List ℕ × Jv) → Jv
-map_jv members = roll-Jv (jv.Map (map member_of members))
-
--- puts a member among members in byte order of their keys
-unfoldable pub put : List ℕ → Jv → List (List ℕ × Jv) → List (List ℕ × Jv)
-put key value members = insert_entry (slice_cmp nat_cmp) members key value
 
 -- ---- cells
 

@@ -1,6 +1,7 @@
 // The JSON of collections and their fields.
 ghost use Rattle.std.specs.Prelude.{◌≡◌, ℕ, List, [], ◌∷◌, ◌++◌, IfOk, codes, map, take, drop, pos};
-ghost use Rattle.pocket_ops.specs.Trees.{text_jv, flag_jv, num_jv, list_jv, map_jv, member_of, rule_jv, bound_jv, date_jv, unique_where_one, field_members, field_jv, type_text, collection_members, collection_jv};
+ghost use Rattle.pocket_types.specs.Maps.{map_jv, member_of};
+ghost use Rattle.pocket_ops.specs.Trees.{text_jv, flag_jv, num_jv, list_jv, rule_jv, bound_jv, date_jv, unique_where_one, field_members, field_jv, type_text, collection_members, collection_jv};
 ghost use Rattle.pocket_types.specs.declared.json.Jv.{Jv};
 ghost use Rattle.pocket_types.specs.declared.records.Kind.TheVariants as kind;
 

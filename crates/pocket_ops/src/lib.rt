@@ -20,6 +20,7 @@ mod trees;
 pub use cells::{cell_value, count_value, item_count, lowered_value};
 pub use collection_trees::collection_jv;
 pub use comparison::compare;
+pub use copies::copied_tree;
 pub use date_reading::date_read;
 pub use date_texts::date_text;
 pub use likeness::like;

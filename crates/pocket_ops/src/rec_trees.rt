@@ -1,6 +1,7 @@
 // The JSON of records.
 ghost use Rattle.std.specs.Prelude.{◌≡◌, ◌&&◌, not, IfOk, if◌then◌else◌};
-ghost use Rattle.pocket_ops.specs.Trees.{put, put_cells, cell_jv, rec_members, kept_jv, rec_jv};
+ghost use Rattle.pocket_types.specs.Maps.{put};
+ghost use Rattle.pocket_ops.specs.Trees.{put_cells, cell_jv, rec_members, kept_jv, rec_jv};
 
 use crate::cell_trees::cell_jv;
 use crate::trees::{map_jv, moment_jv, text_jv};
@@ -9,7 +10,7 @@ use std::alloc::{AllocError, Global};
 use std::collections::BTreeMap;
 
 /// Puts a member among those there; of equal keys the later value counts.
-#[tactic(auto, unfolding(crate::specs::Trees::put))]
+#[tactic(auto, unfolding(pocket_types::specs::Maps::put))]
 fn put(
     members: &mut BTreeMap<Text, Jv>,
     alloc: Global,
@@ -59,7 +60,7 @@ fn put_cells(
 }
 
 /// The dates of a record and its cells, by key.
-#[tactic(auto, unfolding(crate::specs::Trees::put))]
+#[tactic(auto, unfolding(pocket_types::specs::Maps::put))]
 fn rec_members(
     alloc: Global,
     collection: &Collection,

@@ -5,7 +5,8 @@ ghost use Rattle.std.specs.Str.{bytes_eq};
 ghost use Rattle.pocket_types.specs.Json.{printed};
 ghost use Rattle.pocket_ops.specs.Dates.{date_text};
 ghost use Rattle.pocket_ops.specs.Lengths.{held, row_len, are_apart, is_undated, has_own_names};
-ghost use Rattle.pocket_ops.specs.Trees.{text_jv, map_jv, date_jv, items_jv, cell_jv, date_members};
+ghost use Rattle.pocket_types.specs.Maps.{map_jv};
+ghost use Rattle.pocket_ops.specs.Trees.{text_jv, date_jv, items_jv, cell_jv, date_members};
 
 use crate::date_texts::date_text;
 use crate::lengths::{ids_len, member_len, num_len, text_len, texts_len, tree_len};

@@ -2,7 +2,8 @@
 ghost use Rattle.std.specs.Prelude.{◌≡◌, [], ◌∷◌, ◌++◌, IfOk, map, pos};
 ghost use Rattle.pocket_ops.specs.Cells.{texts_jv};
 ghost use Rattle.pocket_ops.specs.Dates.{date_text};
-ghost use Rattle.pocket_ops.specs.Trees.{text_jv, num_jv, flag_jv, map_jv, member_of};
+ghost use Rattle.pocket_types.specs.Maps.{map_jv, member_of};
+ghost use Rattle.pocket_ops.specs.Trees.{text_jv, num_jv, flag_jv};
 
 use crate::date_texts::date_text;
 use pocket_types::{Id, Jv, Member, Moment, Seq, Text};

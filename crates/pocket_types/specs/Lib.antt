@@ -2,6 +2,7 @@ pub mod Causes
 pub mod Inductions
 pub mod Json
 pub mod Kinds
+pub mod Maps
 pub mod Names
 pub mod Order
 pub mod Paths

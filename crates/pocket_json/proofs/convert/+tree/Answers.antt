@@ -1,7 +1,8 @@
 use Rattle.std.proofs.Common.{◌≡◌, Some, None, ◌+◌, drop, [], ◌∷◌, ◌++◌, option_map, sym, ap, ◌∙◌, arith, rules, append-nil}
 use Rattle.std.proofs.lemmas.List.{drop_more, drop_all}
 use Rattle.json.specs.Value.{value_view, items_view, members_view}
-use Rattle.pocket_json.specs.Reading.{tree_of, trees_of, entries_of, put}
+use Rattle.pocket_types.specs.Maps.{put}
+use Rattle.pocket_json.specs.Reading.{tree_of, trees_of, entries_of}
 use Rattle.pocket_json.proofs.Steps.{item_read, item_refused, member_read, member_refused}
 use Rattle.pocket_json.proofs.convert.+tree.Goals as goal
 

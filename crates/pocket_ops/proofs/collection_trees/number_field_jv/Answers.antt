@@ -1,7 +1,8 @@
 use Rattle.std.proofs.Common.{◌≡◌, [], ◌∷◌, codes, subst}
 use Rattle.std.specs.Result.{IfOk}
 use Rattle.pocket_types.specs.declared.json.Jv.{Jv}
-use Rattle.pocket_ops.specs.Trees.{text_jv, flag_jv, map_jv, bound_jv}
+use Rattle.pocket_types.specs.Maps.{map_jv}
+use Rattle.pocket_ops.specs.Trees.{text_jv, flag_jv, bound_jv}
 use Rattle.pocket_ops.proofs.collection_trees.number_field_jv.Goals as goal
 
 pub returns : goal.returns

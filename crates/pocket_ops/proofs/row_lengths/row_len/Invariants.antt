@@ -1,7 +1,8 @@
 use Rattle.std.proofs.Common.{◌≡◌, ◌+◌, length, drop}
 use Rattle.pocket_types.specs.Json.{printed}
 use Rattle.pocket_ops.specs.Lengths.{held}
-use Rattle.pocket_ops.specs.Trees.{map_jv, date_members}
+use Rattle.pocket_types.specs.Maps.{map_jv}
+use Rattle.pocket_ops.specs.Trees.{date_members}
 use Rattle.pocket_ops.proofs.LengthLemmas.{cells_len}
 use Rattle.pocket_ops.proofs.row_lengths.row_len.Given as goal
 

@@ -1,5 +1,5 @@
 use Rattle.std.proofs.Common.{◌≡◌, ◌++◌, map}
-use Rattle.pocket_ops.specs.Trees.{member_of}
+use Rattle.pocket_types.specs.Maps.{member_of}
 use Rattle.pocket_ops.proofs.trees.map_jv.Given as goal
 
 abbrev pub invariant-loop-key : goal.invariant-loop-key
