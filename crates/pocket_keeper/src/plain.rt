@@ -74,7 +74,8 @@ fn is_reserved(name: &str) -> bool
     id || created || updated || collection || expand
 }
 
-fn field_name_of(alloc: Global, text: &str) -> Result<Option<Name>, AllocError>
+/// The name of a field that a text spells. None exactly where no field may have this name.
+pub fn field_name_of(alloc: Global, text: &str) -> Result<Option<Name>, AllocError>
     ensures { IfOk result (λ found. MatchOption found (¬ IsFieldName text.now) (λ name. (name ≡ text.now) × IsFieldName text.now)) }
 {
     if is_reserved(text) {
