@@ -1,0 +1,14 @@
+pub mod CellLemmas
+pub mod CollectionLemmas
+pub mod DifferLemmas
+pub mod EntryLemmas
+pub mod FieldLemmas
+pub mod FieldSoundness
+pub mod FieldTrees
+pub mod MemberLemmas
+pub mod MomentLemmas
+pub mod OnceLemmas
+pub mod ProfileLemmas
+pub mod ReadLemmas
+pub mod RecLemmas
+pub mod TreeForms
