@@ -1,0 +1,13 @@
+pub mod HoldLemmas
+pub mod JudgeLemmas
+pub mod LawLemmas
+pub mod LimitLemmas
+pub mod ListLemmas
+pub mod OutcomeLemmas
+pub mod ReadableLemmas
+pub mod RisingLemmas
+pub mod RuleLemmas
+pub mod SearchLemmas
+pub mod ShelfLemmas
+pub mod SoundLemmas
+pub mod StoreLemmas

@@ -1,0 +1,12 @@
+use Rattle.pocket_store.proofs.RuleLemmas.{no_tree, one_tree}
+use Rattle.pocket_store.proofs.rules.tree_of.Goals as goal
+
+pub returns-in-Ok : goal.returns-in-Ok
+returns-in-Ok c =
+    let answers = rw c.as_str.ensures at c.in-Ok.ensures.only in
+    one_tree c.args.text.now c.in-Ok.tree answers (rw c.as_str.ensures at c.in-Ok.ensures.ok)
+
+pub returns-else-wants_memory : goal.returns-else-wants_memory
+returns-else-wants_memory c =
+    let answers = rw c.as_str.ensures at c.in-Err.ensures.only in
+    no_tree c.args.text.now c.in-Err.fault (rw c.if-wants_memory.false at c.wants_memory.ensures) answers
