@@ -108,8 +108,19 @@ fn try_case(rt: &impl Abort, alloc: Global, case: &str) -> Result<(), Fail> {
     Ok(())
 }
 
+/// What comes of these rows alone.
+fn outcome_of_lines(alloc: Global, lines: &str) -> Result<String, Fail> {
+    outcome(alloc, &mut keeper_of_lines(alloc, lines)?)
+}
+
 #[test]
 fn the_first_bad_row_is_named(rt: HostRuntime) -> Result<(), Fail> {
+    let alloc = rt.alloc();
+    assert_eq!(rt; outcome_of_lines(alloc, "")?.as_str(), "ok");
+    assert_eq!(rt;
+        outcome_of_lines(alloc, "r/notes/xyz {}")?.as_str(),
+        "bad:r/notes/xyz"
+    );
     for table in &[
         keys(),
         values(),
@@ -123,7 +134,7 @@ fn the_first_bad_row_is_named(rt: HostRuntime) -> Result<(), Fail> {
         options(),
     ] {
         for case in table.split("\n\n") {
-            try_case(&rt, rt.alloc(), case)?;
+            try_case(&rt, alloc, case)?;
         }
     }
     Ok(())
