@@ -10,8 +10,12 @@ use Rattle.pocket_ops.specs.Trees.{text_jv, collection_jv, kept_jv}
 use Rattle.pocket_keeper.specs.declared.rows.KeptRow.{KeptRow}
 use Rattle.pocket_keeper.specs.declared.tokens.Token.{Token}
 
+-- the key of a collection's row: `c/` and its name
+abbrev pub collection_key : List ℕ → List ℕ
+collection_key name = codes "c/" ++ name
+
 abbrev pub collection_row : Collection → KeptRow
-collection_row c = record { key = codes "c/" ++ c.name; value = printed (collection_jv c) }
+collection_row c = record { key = collection_key c.name; value = printed (collection_jv c) }
 
 -- the key of a record's row: `r/`, the collection's name, `/`, the id
 abbrev pub rec_key : List ℕ → List ℕ → List ℕ

@@ -14,7 +14,7 @@ mod tokens;
 
 pub use keeper::{Committer, Keeper};
 pub use memory::MemoryKeeper;
-pub use plain::{field_name_of, read_collection, read_rec, rec_key};
+pub use plain::{field_name_of, id_in_rec_key, read_collection, read_rec, split_rec_key};
 pub use rows::{KeepFault, KeptRow};
-pub use texts::{row_of_collection, row_of_rec, row_of_token};
+pub use texts::{collection_key, rec_key, row_of_collection, row_of_rec, row_of_token};
 pub use tokens::Token;

@@ -156,7 +156,7 @@ pub fn read_collection(alloc: Global, row: &KeptRow) -> Result<Option<Collection
 }
 
 /// The collection's name and the id that a record's key has. Neither needs to be of its form.
-pub fn rec_key(key: &str) -> Option<(&str, &str)>
+pub fn split_rec_key(key: &str) -> Option<(&str, &str)>
     ensures { MatchOption result
         ((name id : List ℕ) → HasNoByte 47 name → key.now ≢ rec_key name id)
         (λ p. HasNoByte 47 p.0.now × (key.now ≡ rec_key p.0.now p.1.now)) }
@@ -164,8 +164,8 @@ pub fn rec_key(key: &str) -> Option<(&str, &str)>
     word_after(key, "r/", '/')
 }
 
-/// The id that a record's key has behind the name of its collection.
-fn id_of(key: &str, name: &str) -> Option<Id>
+/// The id that a record's key has behind the name of its collection. None exactly where the key is of no record of that collection.
+pub fn id_in_rec_key(key: &str, name: &str) -> Option<Id>
     ensures { MatchOption result
         ((id : List ℕ) → IsTrue (is_id id) → key.now ≢ rec_key name.now id)
         (λ id. IsTrue (is_id id) × (key.now ≡ rec_key name.now id)) }
@@ -277,7 +277,7 @@ fn candidate(
         (LacksRec collection.now row.now)
         (λ r. IsPlainRec r × ((s : Rec) → IsPlainRec s → row.now ≡ rec_row collection.now s → s ≡ r))) }
 {
-    let Some(id) = id_of(row.key.as_str(), collection.name.as_str()) else {
+    let Some(id) = id_in_rec_key(row.key.as_str(), collection.name.as_str()) else {
         return Ok(None);
     };
     let field = only_field(collection.fields.as_slice());

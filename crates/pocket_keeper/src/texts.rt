@@ -3,39 +3,49 @@ ghost use Rattle.std.specs.Prelude.{◌≡◌, [], ◌∷◌, ◌++◌, IfOk, ma
 ghost use Rattle.pocket_ops.specs.Dates.{date_text};
 ghost use Rattle.pocket_types.specs.Maps.{map_jv, member_of};
 ghost use Rattle.pocket_ops.specs.Trees.{text_jv};
-ghost use Rattle.pocket_keeper.specs.Texts.{collection_row, rec_row, token_members, token_row};
+ghost use Rattle.pocket_keeper.specs.Texts.{collection_key, collection_row, rec_key, rec_row, token_members, token_row};
 
 use crate::rows::KeptRow;
 use pocket_ops::{collection_jv, date_text, kept_jv};
 use pocket_types::{Collection, Id, Jv, Member, Moment, Name, Rec, Seq, Text};
 use std::alloc::{AllocError, Global};
 
+/// The key of a collection's row: `c/` and the collection's name.
+pub fn collection_key(alloc: Global, name: &str) -> Result<Text, AllocError>
+    ensures { IfOk result (λ key. key ≡ collection_key name.now) }
+{
+    let mut key = String::from_str(alloc, "c/")?;
+    key.push_str(name)?;
+    Ok(Text::from_string(key))
+}
+
+/// The key of a record's row: `r/`, its collection's name, `/` and its id.
+pub fn rec_key(alloc: Global, name: &str, id: &str) -> Result<Text, AllocError>
+    ensures { IfOk result (λ key. key ≡ rec_key name.now id.now) }
+{
+    let mut key = String::from_str(alloc, "r/")?;
+    key.push_str(name)?;
+    key.push('/')?;
+    key.push_str(id)?;
+    Ok(Text::from_string(key))
+}
+
 /// The row that keeps a collection: `c/` and its name, and the collection's JSON.
 pub fn row_of_collection(alloc: Global, collection: &Collection) -> Result<KeptRow, AllocError>
     ensures { IfOk result (λ row. row ≡ collection_row collection.now) }
 {
-    let mut key = String::from_str(alloc, "c/")?;
-    key.push_str(collection.name.as_str())?;
+    let key = collection_key(alloc, collection.name.as_str())?;
     let value = collection_jv(alloc, collection)?.print(alloc)?;
-    Ok(KeptRow {
-        key: Text::from_string(key),
-        value,
-    })
+    Ok(KeptRow { key, value })
 }
 
 /// The row that keeps a record: `r/`, its collection's name, `/` and its id, and its dates and all its cells.
 pub fn row_of_rec(alloc: Global, collection: &Collection, rec: &Rec) -> Result<KeptRow, AllocError>
     ensures { IfOk result (λ row. row ≡ rec_row collection.now rec.now) }
 {
-    let mut key = String::from_str(alloc, "r/")?;
-    key.push_str(collection.name.as_str())?;
-    key.push('/')?;
-    key.push_str(rec.id.as_str())?;
+    let key = rec_key(alloc, collection.name.as_str(), rec.id.as_str())?;
     let value = kept_jv(alloc, collection, rec)?.print(alloc)?;
-    Ok(KeptRow {
-        key: Text::from_string(key),
-        value,
-    })
+    Ok(KeptRow { key, value })
 }
 
 fn push_text(

@@ -8,7 +8,7 @@ ghost use Rattle.pocket_rows.specs.Sound.{IsSoundCollection};
 
 use crate::cells::cell_of;
 use crate::members::{members_of, moment_under, value_under};
-use pocket_keeper::{KeptRow, row_of_rec};
+use pocket_keeper::{KeptRow, id_in_rec_key, row_of_rec};
 use pocket_types::{Cell, Collection, Field, Id, Member, Rec, Seq};
 use std::alloc::{AllocError, Global};
 
@@ -40,18 +40,6 @@ fn cells_under(
         cells.push(cell)?;
     }
     Ok(Some(Seq::from_vec(cells)))
-}
-
-/// The id behind the name of its collection, in a record's key.
-fn id_of(key: &str, name: &str) -> Option<Id>
-    ensures { MatchOption result
-        ((id : List ℕ) → IsTrue (is_id id) → key.now ≢ rec_key name.now id)
-        (λ id. IsTrue (is_id id) × (key.now ≡ rec_key name.now id)) }
-{
-    let rest = key.strip_prefix("r/")?;
-    let rest = rest.strip_prefix(name)?;
-    let rest = rest.strip_prefix("/")?;
-    Id::read(rest)
 }
 
 /// The one record of these members that may be of the collection. None only where none is.
@@ -92,7 +80,7 @@ fn candidate(
     requires { IsSoundCollection collection.now }
     ensures { IfOk result (λ found. MatchOption found (KeepsNoRec collection.now row.now) (λ rec. MayKeepRec collection.now row.now rec)) }
 {
-    let Some(id) = id_of(row.key.as_str(), collection.name.as_str()) else {
+    let Some(id) = id_in_rec_key(row.key.as_str(), collection.name.as_str()) else {
         return Ok(None);
     };
     let Some(members) = members_of(alloc, row.value.as_str())? else {

@@ -19,7 +19,7 @@ use Rattle.pocket_types.specs.declared.world.Shelf.{Shelf}
 use Rattle.pocket_filter.specs.Filters.{IsFilter}
 use Rattle.pocket_resolve.specs.Filters.{resolution}
 use Rattle.pocket_resolve.specs.declared.purpose.Purpose.TheVariants.{RuleOf}
-use Rattle.pocket_keeper.specs.Texts.{collection_row, rec_key, rec_row, token_row}
+use Rattle.pocket_keeper.specs.Texts.{collection_key, collection_row, rec_key, rec_row, token_row}
 use Rattle.pocket_keeper.specs.declared.rows.KeptRow.{KeptRow}
 use Rattle.pocket_keeper.specs.declared.tokens.Token.{Token}
 use Rattle.pocket_rows.specs.Sound.{IsSoundCollection, IsSoundRec, IsSoundToken}
@@ -63,7 +63,7 @@ pub record RulesResolve (cs : List Collection) (c : Collection) : Type 0 where
 
 -- the collection that a relation leads to is kept
 abbrev pub LeadsToKept : List KeptRow → Field → Type 0
-LeadsToKept rows f = IfSome (target_of f.kind) (λ target. HasKey rows (codes "c/" ++ target))
+LeadsToKept rows f = IfSome (target_of f.kind) (λ target. HasKey rows (collection_key target))
 
 -- a collection may stand among the others
 pub record FitsAmong (rows : List KeptRow) (cs : List Collection) (c : Collection) : Type 0 where

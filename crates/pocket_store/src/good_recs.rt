@@ -6,7 +6,7 @@ ghost use Rattle.pocket_store.specs.Reading.{IsGoodRecAt};
 ghost use Rattle.pocket_store.specs.Stores.{AllHoldKept, AreReadable, HasKey, HoldsKept, IsRecRow};
 
 use crate::places::{has_rec, place_of};
-use pocket_keeper::{KeptRow, rec_key};
+use pocket_keeper::{KeptRow, split_rec_key};
 use pocket_rows::rec_of_row;
 use pocket_types::{Cell, Collection, Field, Id, Kind, Name, Rec};
 use std::alloc::{AllocError, Global};
@@ -77,7 +77,7 @@ pub(crate) fn good_rec(
     if !is_short(row) {
         return Ok(None);
     }
-    let Some((name, _)) = rec_key(row.key.as_str()) else {
+    let Some((name, _)) = split_rec_key(row.key.as_str()) else {
         return Ok(None);
     };
     let Some(at) = place_of(collections, name) else {

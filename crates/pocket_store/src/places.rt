@@ -1,12 +1,12 @@
 // Where keys stand among rows, and names among collections.
-ghost use Rattle.std.specs.Prelude.{◌≡◌, ◌≢◌, ◌++◌, codes, All, IfOk, MatchBool, MatchOption};
+ghost use Rattle.std.specs.Prelude.{◌≡◌, ◌≢◌, All, IfOk, MatchBool, MatchOption};
 ghost use Rattle.pocket_types.specs.Order.{Rises};
 ghost use Rattle.pocket_keeper.specs.Rows.{IsRising};
-ghost use Rattle.pocket_keeper.specs.Texts.{rec_key};
+ghost use Rattle.pocket_keeper.specs.Texts.{collection_key, rec_key};
 ghost use Rattle.pocket_store.specs.Stores.{HasKey};
 ghost use Rattle.pocket_store.specs.Reading.{IsPlaceOf};
 
-use pocket_keeper::KeptRow;
+use pocket_keeper::{KeptRow, collection_key, rec_key};
 use pocket_types::{Collection, Text};
 use std::alloc::{AllocError, Global};
 
@@ -39,11 +39,10 @@ pub(crate) fn has_collection(
     name: &str,
 ) -> Result<bool, AllocError>
     requires { IsRising rows.now }
-    ensures { IfOk result (λ there. MatchBool there (HasKey rows.now (codes "c/" ++ name.now)) (¬ HasKey rows.now (codes "c/" ++ name.now))) }
+    ensures { IfOk result (λ there. MatchBool there (HasKey rows.now (collection_key name.now)) (¬ HasKey rows.now (collection_key name.now))) }
 {
-    let mut key = String::from_str(alloc, "c/")?;
-    key.push_str(name)?;
-    Ok(has_key(rows, &Text::from_string(key)))
+    let key = collection_key(alloc, name)?;
+    Ok(has_key(rows, &key))
 }
 
 /// Whether the record of a collection and an id has a row.
@@ -56,9 +55,6 @@ pub(crate) fn has_rec(
     requires { IsRising rows.now }
     ensures { IfOk result (λ there. MatchBool there (HasKey rows.now (rec_key name.now id.now)) (¬ HasKey rows.now (rec_key name.now id.now))) }
 {
-    let mut key = String::from_str(alloc, "r/")?;
-    key.push_str(name)?;
-    key.push('/')?;
-    key.push_str(id)?;
-    Ok(has_key(rows, &Text::from_string(key)))
+    let key = rec_key(alloc, name, id)?;
+    Ok(has_key(rows, &key))
 }

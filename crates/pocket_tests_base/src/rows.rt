@@ -1,7 +1,9 @@
 ghost use Rattle.std.specs.Prelude.{IfOk, IfSome};
 ghost use Rattle.pocket_keeper.specs.Plain.{IsPlainCollection};
 
-use pocket_keeper::{KeptRow, read_collection, read_rec, rec_key, row_of_collection, row_of_rec};
+use pocket_keeper::{
+    KeptRow, read_collection, read_rec, row_of_collection, row_of_rec, split_rec_key,
+};
 use pocket_ops::rec_jv;
 use pocket_types::{Cell, Collection, Kind, Rec, Text};
 use std::alloc::{AllocError, Global};
@@ -336,10 +338,10 @@ fn other_values_of_records_are_refused(rt: HostRuntime) -> Result<(), Fail> {
 
 #[test]
 fn keys_of_records_have_parts(rt: HostRuntime) {
-    assert!(rt; rec_key("r/notes/note00000000001") == Some(("notes", "note00000000001")));
-    assert!(rt; rec_key("r/a/b/c") == Some(("a", "b/c")));
-    assert!(rt; rec_key("r//") == Some(("", "")));
+    assert!(rt; split_rec_key("r/notes/note00000000001") == Some(("notes", "note00000000001")));
+    assert!(rt; split_rec_key("r/a/b/c") == Some(("a", "b/c")));
+    assert!(rt; split_rec_key("r//") == Some(("", "")));
     for key in &["r/notes", "c/notes/x", ""] {
-        assert!(rt; rec_key(key).is_none());
+        assert!(rt; split_rec_key(key).is_none());
     }
 }
