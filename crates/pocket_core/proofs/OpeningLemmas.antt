@@ -14,7 +14,8 @@ use Rattle.pocket_keeper.specs.Plain.{IsPlainCollection, IsPlainRec, LacksRec}
 use Rattle.pocket_keeper.specs.Rows.{IsRising}
 use Rattle.pocket_keeper.specs.Texts.{collection_row, rec_row}
 use Rattle.pocket_keeper.specs.declared.rows.KeptRow.{KeptRow}
-use Rattle.pocket_core.specs.Opening.{IsGoodRow, IsFirstBadRow, IsPlainShelf, IsWorldOf, shelf_rows}
+use Rattle.pocket_store.specs.Stores.{shelf_rows}
+use Rattle.pocket_core.specs.Opening.{IsGoodRow, IsFirstBadRow, IsPlainShelf, IsWorldOf}
 use Rattle.pocket_core.specs.Reading.{AddsRow, AddsShelf, AddsRec, HoldsRecAt, IsFaultOf, LacksRow, NamesRow, with_rec}
 use Rattle.pocket_core.specs.declared.opening.StartFault.{StartFault}
 use Rattle.pocket_core.specs.declared.opening.StartFault.TheVariants.{KeeperFault, BadStore, Memory}

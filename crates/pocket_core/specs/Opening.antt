@@ -1,5 +1,5 @@
 -- Which rows stand for which world, and the first row that stands for nothing.
-use Rattle.std.specs.Prelude.{◌≡◌, ◌↔◌, ◌⊎◌, ℕ, List, ◌∷◌, ◌++◌, map, All, Contains, Option, Some, None, ⊤}
+use Rattle.std.specs.Prelude.{◌≡◌, ◌⊎◌, ℕ, List, ◌∷◌, ◌++◌, All, Contains, Option, Some, None, ⊤}
 use Rattle.std.specs.List.{flat_map}
 use Rattle.pocket_types.specs.Order.{Rises}
 use Rattle.pocket_types.specs.declared.records.Collection.{Collection}
@@ -9,6 +9,7 @@ use Rattle.pocket_types.specs.declared.world.World.{World}
 use Rattle.pocket_keeper.specs.Plain.{IsPlainCollection, IsPlainRec}
 use Rattle.pocket_keeper.specs.Texts.{collection_row, rec_row}
 use Rattle.pocket_keeper.specs.declared.rows.KeptRow.{KeptRow}
+use Rattle.pocket_store.specs.Stores.{shelf_rows, HaveSameRows}
 
 -- a row of a plain collection
 abbrev pub IsCollectionRow : KeptRow → Type 0
@@ -33,17 +34,9 @@ pub record IsFirstBadRow (rows : List KeptRow) (key : List ℕ) : Type 0 where
   pub good : All (IsGoodRow rows) before
   pub bad : ¬ IsGoodRow rows row
 
--- the rows of a shelf: its collection's, and one for each record
-abbrev pub shelf_rows : Shelf → List KeptRow
-shelf_rows s = collection_row s.collection ∷ map (rec_row s.collection) s.recs
-
 -- the kept rows of a world, as a map from keys to values
 abbrev pub rows_of : World → List KeptRow
 rows_of w = flat_map shelf_rows w.shelves
-
--- the two lists are one map
-abbrev pub HaveSameRows : List KeptRow → List KeptRow → Type 0
-HaveSameRows rows others = (row : KeptRow) → Contains rows row ↔ Contains others row
 
 -- a plain collection with plain records, rising by id
 pub record IsPlainShelf (s : Shelf) : Type 0 where

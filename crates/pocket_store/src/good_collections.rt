@@ -4,14 +4,13 @@ ghost use Rattle.pocket_keeper.specs.Rows.{IsRising};
 ghost use Rattle.pocket_store.specs.Reading.{AddsCollection};
 ghost use Rattle.pocket_store.specs.Stores.{AreReadable, FitsAmong, IsCollectionRow, LeadsToKept};
 
+use crate::limits::MOST_FIELDS;
 use crate::places::has_collection;
 use crate::rules::rules_resolve;
 use pocket_keeper::KeptRow;
 use pocket_rows::collection_of_row;
 use pocket_types::{Collection, Field};
 use std::alloc::{AllocError, Global};
-
-const MOST_FIELDS: usize = 64;
 
 /// Whether the collection that a relation leads to has a row. Other fields lead nowhere.
 fn leads_to_kept(alloc: Global, rows: &[KeptRow], field: &Field) -> Result<bool, AllocError>

@@ -5,13 +5,12 @@ ghost use Rattle.pocket_keeper.specs.Texts.{rec_key};
 ghost use Rattle.pocket_store.specs.Reading.{IsGoodRecAt};
 ghost use Rattle.pocket_store.specs.Stores.{AllHoldKept, AreReadable, HasKey, HoldsKept, IsRecRow};
 
+use crate::limits::MOST_BYTES;
 use crate::places::{has_rec, place_of};
 use pocket_keeper::{KeptRow, split_rec_key};
 use pocket_rows::rec_of_row;
 use pocket_types::{Cell, Collection, Field, Id, Kind, Name, Rec};
 use std::alloc::{AllocError, Global};
-
-const MOST_BYTES: usize = 65_536;
 
 /// Whether each of the ids is that of a record of the collection that has a row.
 fn are_kept(alloc: Global, rows: &[KeptRow], target: &Name, ids: &[Id]) -> Result<bool, AllocError>

@@ -2,6 +2,12 @@
 ghost use Rattle.std.specs.Prelude.{◌≡◌, ◌⊎◌, ◌+◌, ◌<◌, ◌≤◌, [], MatchOption};
 ghost use Rattle.pocket_store.specs.Limits.{AreCounts};
 
+/// Of the fields of a collection.
+pub(crate) const MOST_FIELDS: usize = 64;
+
+/// Of the bytes of a record's row text.
+pub(crate) const MOST_BYTES: usize = 65_536;
+
 const MOST_COLLECTIONS: u64 = 100;
 
 const MOST_RECORDS: u64 = 200_000;

@@ -1,3 +1,4 @@
+// What a store stands for.
 ghost use Rattle.std.specs.Prelude.{◌≡◌};
 
 use pocket_keeper::Token;

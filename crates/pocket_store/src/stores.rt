@@ -1,12 +1,11 @@
 // Opening a store.
 ghost use Rattle.std.specs.Prelude.{◌≡◌, ◌≤◌, ◌++◌, ◌∷◌, [], List, length, vec_len, IfErr, IfOk, MatchOption, MatchResult};
+ghost use Rattle.pocket_types.specs.declared.records.Collection.{Collection};
 ghost use Rattle.pocket_keeper.specs.Rows.{IsRising};
 ghost use Rattle.pocket_keeper.specs.declared.rows.KeptRow.{KeptRow};
 ghost use Rattle.pocket_store.specs.Drafts.{Adds, HasRoom, IsWhole, no_recs, shelves_of};
-ghost use Rattle.pocket_store.specs.Finding.{Holds};
+ghost use Rattle.pocket_store.specs.Finding.{Holds, NamesRow};
 ghost use Rattle.pocket_store.specs.Limits.{AreCounts};
-ghost use Rattle.pocket_types.specs.declared.records.Collection.{Collection};
-ghost use Rattle.pocket_store.specs.Finding.{NamesRow};
 ghost use Rattle.pocket_store.specs.SoundStates.{IsSoundStored};
 ghost use Rattle.pocket_store.specs.Stores.{AreReadable, AreWithinLimits, IsFaultOf, IsGoodRow, IsStoreOf};
 
