@@ -1,7 +1,9 @@
-//! Tests of rows: those of a small world's collections, records and tokens, byte for byte.
+//! Tests of rows: those of a small world's collections, records and tokens, byte for byte, and what is shown of the records.
 #![tactic(auto)]
 
 #[cfg(test)]
-mod fixtures;
+mod built;
 #[cfg(test)]
 mod rows;
+#[cfg(test)]
+mod tables;

@@ -1,315 +1,209 @@
-use crate::fixtures::{
-    field, id, kinds, moment, name, of_kinds, plain, plain_rec, project, projects, task, tasks,
-    text, tree, user, users,
-};
+ghost use Rattle.pocket_rows.specs.Sound.{IsSoundCollection};
+
+use crate::built::{collection, kinds, lists, moment, name, rec};
+use crate::tables;
 use pocket_keeper::{KeptRow, row_of_collection, row_of_rec, row_of_token};
-use pocket_ops::{has_own_names, rec_jv, row_len};
-use pocket_types::{Collection, Jv, Moment, Rec, Text};
+use pocket_ops::{collection_jv, has_own_names, kept_jv, rec_jv, row_len};
+use pocket_rows::{collection_of_row, rec_of_row};
+use pocket_types::{Collection, Id, Jv, Moment, Rec, Text};
 use std::alloc::{AllocError, Global};
 use std::test::Fail;
 
-/// Adds a line: a row's key, a space and its value.
-fn add(lines: &mut String, row: &KeptRow) -> Result<(), AllocError> {
-    lines.push_str(row.key.as_str())?;
+/// The row of a line: its key, a space and its value.
+fn row_of_line(alloc: Global, line: &str) -> Result<KeptRow, AllocError> {
+    let (key, value) = line.split_once(' ').unwrap_or((line, ""));
+    Ok(KeptRow {
+        key: Text::from_str(alloc, key)?,
+        value: Text::from_str(alloc, value)?,
+    })
+}
+
+/// Adds the line of a word and a text.
+fn add(lines: &mut String, word: &str, text: &str) -> Result<(), AllocError> {
+    lines.push_str(word)?;
     lines.push(' ')?;
-    lines.push_str(row.value.as_str())?;
+    lines.push_str(text)?;
     lines.push('\n')
 }
 
-fn add_collection(
-    lines: &mut String,
-    alloc: Global,
-    collection: &Collection,
-) -> Result<(), AllocError> {
-    add(lines, &row_of_collection(alloc, collection)?)
+fn add_row(lines: &mut String, row: &KeptRow) -> Result<(), AllocError> {
+    add(lines, row.key.as_str(), row.value.as_str())
 }
 
-/// Whether the length that is told of a record's row is this one.
-fn has_len(collection: &Collection, rec: &Rec, len: usize) -> bool {
-    has_own_names(collection) && row_len(collection, rec) == len as u64
+fn add_tree(lines: &mut String, alloc: Global, word: &str, tree: &Jv) -> Result<(), AllocError> {
+    add(lines, word, tree.print(alloc)?.as_str())
 }
 
-/// Adds the line of a record's row, where its length is told as it is.
-fn add_rec(
+/// Adds the length that is told of a record's row.
+fn add_len(
     lines: &mut String,
     alloc: Global,
     collection: &Collection,
     rec: &Rec,
 ) -> Result<(), AllocError> {
-    let row = row_of_rec(alloc, collection, rec)?;
-    if has_len(collection, rec, row.value.len()) {
-        add(lines, &row)
-    } else {
-        lines.push_str("another length is told")
+    if has_own_names(collection) {
+        let line = format!(in alloc; "{} bytes\n", row_len(collection, rec))?;
+        lines.push_str(line.as_str())?;
     }
-}
-
-fn task_rows() -> &'static str {
-    r##"c/tasks {"createRule":"@request.auth.id != \"\" && project.members.id ?= @request.auth.id","deleteRule":null,"fields":[{"hidden":false,"max":5000,"min":0,"name":"title","required":true,"type":"text","unique":false},{"cascadeDelete":true,"collection":"projects","hidden":false,"maxSelect":1,"name":"project","required":true,"type":"relation","unique":false},{"cascadeDelete":false,"collection":"users","hidden":false,"maxSelect":1,"name":"assignee","required":false,"type":"relation","unique":false},{"hidden":false,"maxSelect":3,"name":"tags","required":false,"type":"select","values":["bug","docs","urgent"]},{"hidden":false,"max":null,"min":null,"name":"count","required":false,"type":"number","unique":false},{"hidden":false,"max":"","min":"","name":"due","required":false,"type":"date","unique":false}],"listRule":"@request.auth.id != \"\" && project.members.id ?= @request.auth.id","name":"tasks","type":"base","updateRule":"@request.auth.id != \"\" && project.members.id ?= @request.auth.id && @request.body.project:isset = false","viewRule":"@request.auth.id != \"\" && project.members.id ?= @request.auth.id"}
-r/tasks/task00000000001 {"assignee":"user00000000bob","count":3,"created":"2024-01-01 00:00:00.000Z","due":"2024-05-03 00:00:00.000Z","project":"proj00000000one","tags":["bug","urgent"],"title":"Fix login","updated":"2024-01-01 00:00:00.000Z"}
-r/tasks/task00000000002 {"assignee":"user00000000cyd","count":0,"created":"2024-01-01 00:00:00.000Z","due":"","project":"proj00000000one","tags":["docs"],"title":"Write guide","updated":"2024-01-01 00:00:00.000Z"}
-r/tasks/task00000000003 {"assignee":"user00000000cyd","count":9007199254740991,"created":"2024-01-01 00:00:00.000Z","due":"","project":"proj00000000two","tags":[],"title":"Open shop","updated":"2024-01-01 00:00:00.000Z"}
-"##
-}
-
-fn first_task(alloc: Global) -> Result<Rec, Fail> {
-    task(
-        alloc,
-        "task00000000001",
-        "Fix login",
-        ["proj00000000one", "user00000000bob"],
-        "bug urgent",
-        3,
-        Some(moment(1_714_694_400_000)?),
-    )
-}
-
-fn second_task(alloc: Global) -> Result<Rec, Fail> {
-    task(
-        alloc,
-        "task00000000002",
-        "Write guide",
-        ["proj00000000one", "user00000000cyd"],
-        "docs",
-        0,
-        None,
-    )
-}
-
-fn third_task(alloc: Global) -> Result<Rec, Fail> {
-    task(
-        alloc,
-        "task00000000003",
-        "Open shop",
-        ["proj00000000two", "user00000000cyd"],
-        "",
-        9_007_199_254_740_991,
-        None,
-    )
-}
-
-fn task_lines(alloc: Global) -> Result<String, Fail> {
-    let mut lines = String::new(alloc);
-    let kept = tasks(alloc)?;
-    add_collection(&mut lines, alloc, &kept)?;
-    add_rec(&mut lines, alloc, &kept, &first_task(alloc)?)?;
-    add_rec(&mut lines, alloc, &kept, &second_task(alloc)?)?;
-    add_rec(&mut lines, alloc, &kept, &third_task(alloc)?)?;
-    Ok(lines)
-}
-
-#[test]
-fn tasks_have_rows(rt: HostRuntime) -> Result<(), Fail> {
-    let lines = task_lines(rt.alloc())?;
-    assert!(rt; lines.as_str() == task_rows());
     Ok(())
 }
 
-fn project_rows() -> &'static str {
-    r##"c/projects {"createRule":null,"deleteRule":null,"fields":[{"hidden":false,"max":5000,"min":0,"name":"title","required":true,"type":"text","unique":false},{"cascadeDelete":false,"collection":"users","hidden":false,"maxSelect":1,"name":"owner","required":false,"type":"relation","unique":false},{"cascadeDelete":false,"collection":"users","hidden":false,"maxSelect":50,"name":"members","required":false,"type":"relation"}],"listRule":"@request.auth.id != \"\" && members.id ?= @request.auth.id","name":"projects","type":"base","updateRule":"@request.auth.id != \"\" && owner = @request.auth.id && @request.body.members:isset = false","viewRule":"@request.auth.id != \"\" && members.id ?= @request.auth.id"}
-r/projects/proj00000000one {"created":"2024-01-01 00:00:00.000Z","members":["user00000000ann","user00000000bob"],"owner":"user00000000ann","title":"Site","updated":"2024-01-01 00:00:00.000Z"}
-r/projects/proj00000000two {"created":"2024-01-01 00:00:00.000Z","members":["user00000000ann","user00000000cyd"],"owner":"user00000000cyd","title":"Shop","updated":"2024-01-01 00:00:00.000Z"}
-"##
-}
-
-fn first_project(alloc: Global) -> Result<Rec, Fail> {
-    project(
-        alloc,
-        "proj00000000one",
-        "Site",
-        "user00000000ann",
-        "user00000000ann user00000000bob",
-    )
-}
-
-fn second_project(alloc: Global) -> Result<Rec, Fail> {
-    project(
-        alloc,
-        "proj00000000two",
-        "Shop",
-        "user00000000cyd",
-        "user00000000ann user00000000cyd",
-    )
-}
-
-fn project_lines(alloc: Global) -> Result<String, Fail> {
-    let mut lines = String::new(alloc);
-    let kept = projects(alloc)?;
-    add_collection(&mut lines, alloc, &kept)?;
-    add_rec(&mut lines, alloc, &kept, &first_project(alloc)?)?;
-    add_rec(&mut lines, alloc, &kept, &second_project(alloc)?)?;
-    Ok(lines)
-}
-
-#[test]
-fn projects_have_rows(rt: HostRuntime) -> Result<(), Fail> {
-    let lines = project_lines(rt.alloc())?;
-    assert!(rt; lines.as_str() == project_rows());
-    Ok(())
-}
-
-fn user_rows() -> &'static str {
-    r##"c/users {"createRule":null,"deleteRule":null,"fields":[{"hidden":false,"max":5000,"min":0,"name":"name","required":true,"type":"text","unique":false},{"hidden":false,"max":5000,"min":0,"name":"team","required":false,"type":"text","unique":false},{"hidden":true,"max":null,"min":null,"name":"salary","required":false,"type":"number","unique":false}],"listRule":"@request.auth.id != \"\" && (team = @request.auth.team || id = @request.auth.id)","name":"users","type":"auth","updateRule":null,"viewRule":"@request.auth.id != \"\" && (team = @request.auth.team || id = @request.auth.id)"}
-r/users/user00000000ann {"created":"2024-01-01 00:00:00.000Z","name":"Ann","salary":100,"team":"red","updated":"2024-01-01 00:00:00.000Z"}
-"##
-}
-
-fn ann(alloc: Global) -> Result<Rec, Fail> {
-    user(alloc, "user00000000ann", "Ann", "red", 100)
-}
-
-fn user_lines(alloc: Global) -> Result<String, Fail> {
-    let mut lines = String::new(alloc);
-    let kept = users(alloc)?;
-    add_collection(&mut lines, alloc, &kept)?;
-    add_rec(&mut lines, alloc, &kept, &ann(alloc)?)?;
-    Ok(lines)
-}
-
-#[test]
-fn users_have_rows(rt: HostRuntime) -> Result<(), Fail> {
-    let lines = user_lines(rt.alloc())?;
-    assert!(rt; lines.as_str() == user_rows());
-    Ok(())
-}
-
-fn plain_rows() -> &'static str {
-    r##"c/drafts {"createRule":null,"deleteRule":null,"fields":[{"hidden":false,"max":5000,"min":0,"name":"text","required":false,"type":"text","unique":false}],"listRule":null,"name":"drafts","type":"base","updateRule":null,"viewRule":null}
-c/logs {"createRule":null,"deleteRule":null,"fields":[{"hidden":false,"max":5000,"min":0,"name":"line","required":false,"type":"text","unique":false}],"listRule":null,"name":"logs","type":"base","updateRule":null,"viewRule":null}
-r/logs/log000000000001 {"created":"2024-01-01 00:00:00.000Z","line":"boot","updated":"2024-01-01 00:00:00.000Z"}
-c/notes {"createRule":"","deleteRule":"","fields":[{"hidden":false,"max":5000,"min":0,"name":"text","required":false,"type":"text","unique":false}],"listRule":"","name":"notes","type":"base","updateRule":"","viewRule":""}
-r/notes/note00000000001 {"created":"2024-01-01 00:00:00.000Z","text":"hello","updated":"2024-01-01 00:00:00.000Z"}
-"##
-}
-
-/// Adds the rows of a collection with one text field and of its record.
-fn add_plain(
+/// Adds the length of a record's row, and what the record shows to the administrator and to others.
+fn add_shown(
     lines: &mut String,
     alloc: Global,
-    names: [&str; 3],
-    text: &str,
-    rule: &str,
-) -> Result<(), Fail> {
-    let [collection, field, id] = names;
-    let kept = plain(alloc, collection, field, rule)?;
-    add_collection(lines, alloc, &kept)?;
-    add_rec(lines, alloc, &kept, &plain_rec(alloc, id, text)?)?;
-    Ok(())
-}
-
-fn plain_lines(alloc: Global) -> Result<String, Fail> {
-    let mut lines = String::new(alloc);
-    let drafts = plain(alloc, "drafts", "text", "locked")?;
-    add_collection(&mut lines, alloc, &drafts)?;
-    let logs = ["logs", "line", "log000000000001"];
-    add_plain(&mut lines, alloc, logs, "boot", "locked")?;
-    let notes = ["notes", "text", "note00000000001"];
-    add_plain(&mut lines, alloc, notes, "hello", "")?;
-    Ok(lines)
-}
-
-#[test]
-fn plain_records_have_rows(rt: HostRuntime) -> Result<(), Fail> {
-    let lines = plain_lines(rt.alloc())?;
-    assert!(rt; lines.as_str() == plain_rows());
-    Ok(())
-}
-
-fn token_row() -> &'static str {
-    "t/aaaaaaaaaaaaaaaaaaaaaaaaaaaaaaaa {\"collection\":\"users\",\"id\":\"user00000000ann\",\"until\":\"9999-12-31 23:59:59.999Z\"}\n"
-}
-
-fn token_lines(alloc: Global) -> Result<String, Fail> {
-    let mut lines = String::new(alloc);
-    let token = Text::from_str(alloc, "aaaaaaaaaaaaaaaaaaaaaaaaaaaaaaaa")?;
-    let collection = name(alloc, "users")?;
-    let until = moment(253_402_300_799_999)?;
-    let row = row_of_token(alloc, &token, &collection, id("user00000000ann")?, until)?;
-    add(&mut lines, &row)?;
-    Ok(lines)
-}
-
-#[test]
-fn tokens_have_rows(rt: HostRuntime) -> Result<(), Fail> {
-    let lines = token_lines(rt.alloc())?;
-    assert!(rt; lines.as_str() == token_row());
-    Ok(())
-}
-
-fn kind_rows() -> &'static str {
-    r##"c/kinds {"createRule":"","deleteRule":"","fields":[{"hidden":false,"max":10,"min":1,"name":"Text","required":true,"type":"text","unique":true},{"hidden":true,"max":null,"min":-5,"name":"number","required":false,"type":"number","unique":false},{"hidden":false,"name":"flag","required":false,"type":"bool"},{"hidden":false,"max":"9999-12-31 23:59:59.999Z","min":"0001-01-01 00:00:00.000Z","name":"date","required":false,"type":"date","unique":true},{"hidden":false,"maxSelect":1,"name":"select","required":false,"type":"select","unique":true,"values":["x","y\"z"]},{"hidden":false,"maxSize":100,"name":"json","required":true,"type":"json"},{"cascadeDelete":true,"collection":"users","hidden":false,"maxSelect":1,"name":"zed","required":false,"type":"relation","unique":true}],"listRule":null,"name":"kinds","type":"base","updateRule":null,"viewRule":null}
-r/kinds/kind00000000001 {"Text":"\"\\/\b\t\n\f\r\u0001\u001f€","created":"2024-01-01 00:00:00.000Z","date":"","flag":true,"json":{"k\t":[null,true,false,-3,"q\"é",{}],"z":[]},"number":-7,"select":"","updated":"2024-01-01 00:00:00.000Z","zed":""}
-r/kinds/kind00000000002 {"Text":"","created":"2024-01-01 00:00:00.000Z","date":"0001-01-01 00:00:00.000Z","flag":false,"json":null,"number":0,"select":"y\"z","updated":"2024-01-01 00:00:00.000Z","zed":"user00000000ann"}
-"##
-}
-
-fn first_of_kinds(alloc: Global) -> Result<Rec, Fail> {
-    let text = "\"\\/\u{8}\t\n\u{c}\r\u{1}\u{1f}€";
-    let json = tree(alloc)?;
-    of_kinds(
+    collection: &Collection,
+    rec: &Rec,
+) -> Result<(), AllocError> {
+    add_len(lines, alloc, collection, rec)?;
+    add_tree(
+        lines,
         alloc,
-        "kind00000000001",
-        [text, "", ""],
-        -7,
-        true,
-        None,
-        json,
+        "admin",
+        &rec_jv(alloc, collection, rec, true)?,
+    )?;
+    add_tree(
+        lines,
+        alloc,
+        "others",
+        &rec_jv(alloc, collection, rec, false)?,
     )
 }
 
-fn second_of_kinds(alloc: Global) -> Result<Rec, Fail> {
-    let items = ["", "y\"z", "user00000000ann"];
-    let first: Option<Moment> = Some(moment(-62_135_596_800_000)?);
-    of_kinds(alloc, "kind00000000002", items, 0, false, first, Jv::Null)
+/// Adds what is told of the record that a line's row keeps. Its row was printed and compared when it was read, so that
+/// here its JSON is printed alone.
+fn add_read(
+    lines: &mut String,
+    alloc: Global,
+    collection: &Collection,
+    line: &str,
+) -> Result<(), AllocError>
+    requires { IsSoundCollection collection.now }
+{
+    let row = row_of_line(alloc, line)?;
+    if let Some(rec) = rec_of_row(alloc, collection, &row)? {
+        add_tree(
+            lines,
+            alloc,
+            row.key.as_str(),
+            &kept_jv(alloc, collection, &rec)?,
+        )?;
+        add_shown(lines, alloc, collection, &rec)?;
+    }
+    Ok(())
 }
 
-fn kind_lines(alloc: Global) -> Result<String, Fail> {
+/// Adds what is told of the collection and the records whose rows stand in a part of a table.
+fn add_part(lines: &mut String, alloc: Global, part: &str) -> Result<(), AllocError> {
+    let (first, others) = part.split_once('\n').unwrap_or((part, ""));
+    let row = row_of_line(alloc, first)?;
+    let Some(collection) = collection_of_row(alloc, &row)? else {
+        return Ok(());
+    };
+    add_tree(
+        lines,
+        alloc,
+        row.key.as_str(),
+        &collection_jv(alloc, &collection)?,
+    )?;
+    for line in others.lines() {
+        add_read(lines, alloc, &collection, line)?;
+    }
+    Ok(())
+}
+
+#[test]
+fn rows_are_read_and_printed(rt: HostRuntime) -> Result<(), Fail> {
+    for table in &[tables::world(), tables::kinds(), tables::lists()] {
+        for part in table.split("\n\n") {
+            let mut told = String::new(rt.alloc());
+            add_part(&mut told, rt.alloc(), part)?;
+            assert_eq!(rt; told.as_str().trim_end(), part.trim_end());
+        }
+    }
+    Ok(())
+}
+
+/// Adds what is told of a record that is built of an id and words with bars between them.
+fn add_built(
+    lines: &mut String,
+    alloc: Global,
+    collection: &Collection,
+    dates: [Moment; 2],
+    text: &str,
+) -> Result<(), Fail> {
+    let (id, words) = text.split_once('|').unwrap_or((text, ""));
+    let rec = rec(alloc, collection, id, dates, words)?;
+    add_row(lines, &row_of_rec(alloc, collection, &rec)?)?;
+    Ok(add_shown(lines, alloc, collection, &rec)?)
+}
+
+/// What is told of a collection and of records that are built.
+fn told_of_built(
+    alloc: Global,
+    collection: &Collection,
+    dates: [Moment; 2],
+    recs: [&str; 2],
+) -> Result<String, Fail> {
     let mut lines = String::new(alloc);
-    let kept = kinds(alloc)?;
-    add_collection(&mut lines, alloc, &kept)?;
-    add_rec(&mut lines, alloc, &kept, &first_of_kinds(alloc)?)?;
-    add_rec(&mut lines, alloc, &kept, &second_of_kinds(alloc)?)?;
+    add_row(&mut lines, &row_of_collection(alloc, collection)?)?;
+    for text in &recs {
+        add_built(&mut lines, alloc, collection, dates, text)?;
+    }
+    Ok(lines)
+}
+
+fn told_of_kinds(alloc: Global) -> Result<String, Fail> {
+    let day = moment(1_704_067_200_000)?;
+    let recs = [
+        "kind00000000001|\"\\/\u{8}\t\n\u{c}\r\u{1}\u{1f}€|-7|true|||tree|",
+        "kind00000000002||0|false|-62135596800000|y\"z|null|user00000000ann",
+    ];
+    told_of_built(alloc, &kinds(alloc)?, [day, day], recs)
+}
+
+fn told_of_lists(alloc: Global) -> Result<String, Fail> {
+    let dates = [moment(1_704_067_200_000)?, moment(1_714_694_400_000)?];
+    let recs = [
+        "list00000000001|y\"z x|user00000000bob user00000000ann|9007199254740991|253402300799999|Fix login",
+        "list00000000002|||0||",
+    ];
+    told_of_built(alloc, &lists(alloc)?, dates, recs)
+}
+
+fn token(alloc: Global) -> Result<KeptRow, Fail> {
+    let id = Id::read("user00000000ann").ok_or("no id")?;
+    let until = moment(253_402_300_799_999)?;
+    let collection = name(alloc, "users")?;
+    let text = Text::from_str(alloc, "aaaaaaaaaaaaaaaaaaaaaaaaaaaaaaaa")?;
+    Ok(row_of_token(alloc, &text, &collection, id, until)?)
+}
+
+fn told_of_token(alloc: Global) -> Result<String, Fail> {
+    let row = token(alloc)?;
+    let mut lines = String::new(alloc);
+    add_row(&mut lines, &row)?;
     Ok(lines)
 }
 
 #[test]
-fn each_kind_has_its_rows(rt: HostRuntime) -> Result<(), Fail> {
-    let lines = kind_lines(rt.alloc())?;
-    assert!(rt; lines.as_str() == kind_rows());
+fn what_is_built_is_printed(rt: HostRuntime) -> Result<(), Fail> {
+    let alloc = rt.alloc();
+    assert!(rt; told_of_kinds(alloc)?.as_str() == tables::kinds());
+    assert!(rt; told_of_lists(alloc)?.as_str() == tables::lists());
+    assert!(rt; told_of_token(alloc)?.as_str() == tables::token());
     Ok(())
 }
 
-/// What a record shows to the administrator, and to others.
-fn shown_ann() -> [&'static str; 2] {
-    [
-        "{\"collectionName\":\"users\",\"created\":\"2024-01-01 00:00:00.000Z\",\"id\":\"user00000000ann\",\"name\":\"Ann\",\"salary\":100,\"team\":\"red\",\"updated\":\"2024-01-01 00:00:00.000Z\"}",
-        "{\"collectionName\":\"users\",\"created\":\"2024-01-01 00:00:00.000Z\",\"id\":\"user00000000ann\",\"name\":\"Ann\",\"team\":\"red\",\"updated\":\"2024-01-01 00:00:00.000Z\"}",
-    ]
-}
-
-fn shown(alloc: Global, hidden: bool) -> Result<Text, Fail> {
-    Ok(rec_jv(alloc, &users(alloc)?, &ann(alloc)?, hidden)?.print(alloc)?)
-}
-
-#[test]
-fn hidden_fields_are_shown_to_the_administrator(rt: HostRuntime) -> Result<(), Fail> {
-    let [admin, others] = shown_ann();
-    assert!(rt; shown(rt.alloc(), true)?.as_str() == admin);
-    assert!(rt; shown(rt.alloc(), false)?.as_str() == others);
-    Ok(())
-}
-
-fn has_team_twice(alloc: Global) -> Result<bool, Fail> {
-    let mut twice = users(alloc)?;
-    twice.fields.push(field(alloc, "team", text(), "")?)?;
-    Ok(!has_own_names(&twice))
+fn owns_names(alloc: Global, fields: &str) -> Result<bool, Fail> {
+    Ok(has_own_names(&collection(alloc, "notes", fields)?))
 }
 
 #[test]
 fn members_of_one_name_are_told(rt: HostRuntime) -> Result<(), Fail> {
-    let alloc = rt.alloc();
-    assert!(rt; !has_own_names(&plain(alloc, "notes", "created", "")?));
-    assert!(rt; !has_own_names(&plain(alloc, "notes", "updated", "")?));
-    assert!(rt; has_team_twice(alloc)?);
+    for fields in &["created", "updated", "name,team,salary,team"] {
+        assert!(rt; !owns_names(rt.alloc(), fields)?);
+    }
+    assert!(rt; owns_names(rt.alloc(), "name,team,salary")?);
     Ok(())
 }
