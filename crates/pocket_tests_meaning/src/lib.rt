@@ -4,4 +4,4 @@
 #[cfg(test)]
 mod table;
 #[cfg(test)]
-mod worlds;
+mod world;

@@ -1,9 +1,13 @@
-use crate::worlds::{cells_sent, collections, id, moment, name, pairs, rec, world};
+use crate::world::{asked, collections, sent_to_task, world};
 use pocket_filter::parse;
 use pocket_meaning::{holds_slow, laws};
+use pocket_ops::date_read;
 use pocket_resolve::{Purpose, resolve};
-use pocket_types::{Ask, Caller, Collection, Context, Method, Rec, World};
-use std::alloc::Global;
+use pocket_types::{
+    Ask, Caller, Collection, Context, Id, Method, Name, Pair, Rec, Resolved, Sent, Seq, Text, World,
+};
+use std::alloc::{AllocError, Global};
+use std::process::Abort;
 use std::test::Fail;
 
 /// A caller and a record, a rule of the record's collection, and whether it holds, a case a line. The truth was worked out by hand
@@ -152,101 +156,152 @@ guest tasks/task00000000001: @request.body.tags:each = "bug" => false
 guest tasks/task00000000001: @request.body.project = project => false
 guest tasks/task00000000003: @request.body.project = project => true
 guest tasks/task00000000001: @request.body.tags ?= tags:each => true
-guest projects/proj00000000one: @request.body.title:isset = false => true"##
+guest projects/proj00000000one: @request.body.title:isset = false => true
+# A task that doesn't stand in the world: its own relations lead on, and no look-up finds it
+cyd tasks/task00000000new: project.members.id ?= @request.auth.id => true
+cyd tasks/task00000000new: assignee.name = "Ann" && count = 1 => true
+cyd tasks/task00000000new: @collection.tasks.id ?= id => false
+cyd tasks/task00000000new: assignee.tasks_via_assignee.title ?= title => false"##
 }
 
-/// Rules of a task that doesn't stand in the world: its own relations lead on, and no look-up finds it.
-fn cases_of_a_new_task() -> &'static str {
-    r##"project.members.id ?= @request.auth.id => true
-assignee.name = "Ann" && count = 1 => true
-@collection.tasks.id ?= id => false
-assignee.tasks_via_assignee.title ?= title => false"##
+/// A case, taken apart.
+#[derive(Clone, Copy)]
+struct Case<'a> {
+    caller: &'a str,
+    home: &'a str,
+    id: &'a str,
+    rule: &'a str,
+    truth: &'a str,
 }
 
-fn member(alloc: Global, home: &str, word: &str) -> Result<Caller, Fail> {
-    let key = format!(in alloc; "user00000000{word}")?;
-    Ok(Caller::Member(name(alloc, home)?, id(key.as_str())?))
+fn case_of(line: &str) -> Option<Case<'_>> {
+    let (caller, rest) = line.split_once(' ')?;
+    let (home, rest) = rest.split_once('/')?;
+    let (id, rest) = rest.split_once(": ")?;
+    let (rule, truth) = rest.rsplit_once(" => ")?;
+    Some(Case {
+        caller,
+        home,
+        id,
+        rule,
+        truth,
+    })
+}
+
+/// Where rules are judged.
+#[derive(Drop)]
+struct Stage {
+    /// The collections for which rules are resolved.
+    collections: Vec<Collection>,
+    world: World,
+    /// A world with all records of which rules are asked.
+    asked: World,
+}
+
+fn set_stage(alloc: Global) -> Result<Stage, Fail> {
+    Ok(Stage {
+        collections: collections(alloc)?,
+        world: world(alloc)?,
+        asked: asked(alloc)?,
+    })
 }
 
 fn caller(alloc: Global, word: &str) -> Result<Caller, Fail> {
-    match word {
-        "guest" => Ok(Caller::Guest),
-        "admin" => Ok(Caller::Admin),
-        "dot" => member(alloc, "staff", word),
-        _ => member(alloc, "users", word),
+    let home = match word {
+        "guest" => return Ok(Caller::Guest),
+        "admin" => return Ok(Caller::Admin),
+        "dot" => "staff",
+        _ => "users",
+    };
+    let id = format!(in alloc; "user00000000{word}")?;
+    let id = Id::read(id.as_str()).ok_or("no id")?;
+    Ok(Caller::Member(Name::read(alloc, home)?, id))
+}
+
+/// Pairs `name=value`, apart by blanks.
+fn pairs(alloc: Global, words: &str) -> Result<Seq<Pair>, AllocError> {
+    let mut pairs = Seq::new(alloc);
+    for word in words.split(' ') {
+        let (name, value) = word.split_once('=').unwrap_or((word, ""));
+        let name = Text::from_str(alloc, name)?;
+        let value = Text::from_str(alloc, value)?;
+        pairs.push(Pair { name, value })?;
+    }
+    Ok(pairs)
+}
+
+fn body(alloc: Global, home: &Name) -> Result<Seq<Sent>, Fail> {
+    match home.as_str() {
+        "tasks" => sent_to_task(alloc),
+        _ => Ok(Seq::new(alloc)),
     }
 }
 
-fn ask(alloc: Global, collection: &Collection, word: &str) -> Result<Ask, Fail> {
-    let body = match collection.name.as_str() {
-        "tasks" => "New|proj00000000two||docs,bug||",
-        _ => "",
-    };
+fn ask(alloc: Global, home: &Name, word: &str) -> Result<Ask, Fail> {
+    let moment = date_read("2024-05-01T10:00").ok_or("no date")?;
     Ok(Ask {
         caller: caller(alloc, word)?,
         method: Method::Patch,
         context: Context::Default,
         headers: pairs(alloc, "x_kind=Big x_kind=small")?,
         query: pairs(alloc, "q= page=7")?,
-        body: cells_sent(alloc, collection, body)?,
-        moment: moment("2024-05-01T10:00")?,
+        body: body(alloc, home)?,
+        moment,
     })
 }
 
-/// Whether a rule of a collection holds of a record, for a caller.
-fn judged(
-    alloc: Global,
-    world: &World,
-    collection: &Collection,
-    rec: &Rec,
-    word: &str,
-    text: &str,
-) -> Result<bool, Fail> {
-    let collections = collections(alloc)?;
+/// A rule of a collection.
+fn rule(alloc: Global, stage: &Stage, home: &Name, text: &str) -> Result<Resolved, Fail> {
     let expr = parse(alloc, text)?;
-    let purpose = Purpose::RuleOf(name(alloc, collection.name.as_str())?);
-    let filter = resolve(alloc, collections.as_slice(), &purpose, &expr)?;
-    let ask = ask(alloc, collection, word)?;
-    Ok(holds_slow(alloc, world, &ask, &collection.name, rec, &filter)?)
+    let purpose = Purpose::RuleOf(home.clone()?);
+    Ok(resolve(alloc, stage.collections.as_slice(), &purpose, &expr)?)
 }
 
-/// The truth of a case, given its caller and record, and its rule.
-fn truth(alloc: Global, world: &World, place: &str, text: &str) -> Result<bool, Fail> {
-    let (word, place) = place.split_once(' ').ok_or("no record")?;
-    let (home, key) = place.split_once('/').ok_or("no id")?;
-    let shelf = world.shelf(&name(alloc, home)?).ok_or("no collection")?;
-    let rec = shelf.rec(id(key)?).ok_or("no such record")?;
-    judged(alloc, world, &shelf.collection, rec, word, text)
+/// The record of an id.
+fn rec_of<'a>(asked: &'a World, home: &Name, id: &str) -> Option<&'a Rec> {
+    asked.shelf(home)?.rec(Id::read(id)?)
+}
+
+/// Whether a rule holds of a record.
+fn holds_of(
+    alloc: Global,
+    stage: &Stage,
+    home: &Name,
+    rec: &Rec,
+    ask: &Ask,
+    text: &str,
+) -> Result<bool, Fail> {
+    let rule = rule(alloc, stage, home, text)?;
+    Ok(holds_slow(alloc, &stage.world, ask, home, rec, &rule)?)
+}
+
+/// Whether the rule of a case holds.
+fn holds(alloc: Global, stage: &Stage, case: &Case) -> Result<bool, Fail> {
+    let home = Name::read(alloc, case.home)?;
+    let rec = rec_of(&stage.asked, &home, case.id).ok_or("no such record")?;
+    let ask = ask(alloc, &home, case.caller)?;
+    holds_of(alloc, stage, &home, rec, &ask, case.rule)
+}
+
+fn try_case(rt: &impl Abort, alloc: Global, stage: &Stage, line: &str) -> Result<(), Fail> {
+    let case = case_of(line).ok_or("no case")?;
+    let found = if holds(alloc, stage, &case)? {
+        "true"
+    } else {
+        "false"
+    };
+    assert_eq!(rt; found, case.truth, "{line}");
+    Ok(())
 }
 
 #[test]
 fn rules_hold_as_worked_out(rt: HostRuntime) -> Result<(), Fail> {
     let alloc = rt.alloc();
-    let world = world(alloc)?;
+    let stage = set_stage(alloc)?;
     for line in cases().lines() {
-        if let Some((place, rest)) = line.split_once(": ") {
-            let (text, wanted) = rest.rsplit_once(" => ").ok_or("no truth")?;
-            assert_eq!(rt;
-                truth(alloc, &world, place, text)?,
-                wanted == "true",
-                "{line}"
-            );
+        if !line.starts_with('#') {
+            try_case(&rt, alloc, &stage, line)?;
         }
-    }
-    Ok(())
-}
-
-#[test]
-fn the_record_need_not_stand_in_the_world(rt: HostRuntime) -> Result<(), Fail> {
-    let alloc = rt.alloc();
-    let world = world(alloc)?;
-    let shelf = world.shelf(&name(alloc, "tasks")?).ok_or("no tasks")?;
-    let cells = "Sell|proj00000000two|user00000000ann|docs|1|";
-    let rec = rec(alloc, &shelf.collection, "task00000000new", cells)?;
-    for line in cases_of_a_new_task().lines() {
-        let (text, wanted) = line.rsplit_once(" => ").ok_or("no truth")?;
-        let found = judged(alloc, &world, &shelf.collection, &rec, "cyd", text)?;
-        assert_eq!(rt; found, wanted == "true", "{line}");
     }
     Ok(())
 }
