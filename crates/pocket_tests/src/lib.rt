@@ -4,4 +4,8 @@
 #[cfg(test)]
 mod machine;
 #[cfg(test)]
+mod run_cases;
+#[cfg(test)]
 mod runs;
+#[cfg(test)]
+mod texts;
