@@ -7,8 +7,8 @@ ghost use Rattle.pocket_store.specs.SoundStates.{IsSoundStored};
 ghost use Rattle.pocket_store.specs.Stores.{AreWithinLimits, IsStoreOf, records_in, value_len};
 ghost use Rattle.pocket_core.specs.Opening.{IsWorldOf};
 
-/// Rows that `State::load` takes, and that pass no limit, are a store that `stored_of` opens to the same world: it is a sound state,
-/// without tokens, and no other has these rows.
+/// Rows that `State::load` opens to a world, and that pass no limit, are a store in the sense of `stored_of`, and that of this world
+/// without tokens, which is a sound state.
 pub fn plain_stores_open_to_the_same_world()
     ensures { (rows : List KeptRow) (w : World) → IsRising rows → IsWorldOf rows w → AreWithinLimits rows → All (λ row. value_len row ≤ 65536) (records_in rows)
         → IsStoreOf rows (record { world = w; tokens = [] }) × IsSoundStored (record { world = w; tokens = [] }) }

@@ -11,7 +11,7 @@ pub fn sound_states_with_equal_rows_are_equal()
     ensures { (a : Stored) (b : Stored) → IsSoundStored a → IsSoundStored b → HaveSameRows (stored_rows a) (stored_rows b) → a ≡ b }
 {}
 
-/// Rows decide what opening them gives: they stand for one sound state or have one first bad row, and never both.
+/// Rows stand for at most one sound state and have at most one first bad row, and never both.
 pub fn an_opening_has_one_outcome()
     ensures state { (rows : List KeptRow) (a : Stored) (b : Stored) → IsStoreOf rows a → IsStoreOf rows b → IsSoundStored a → IsSoundStored b → a ≡ b }
     ensures row { (rows : List KeptRow) (key : List ℕ) (other : List ℕ) → IsFirstBadRow rows key → IsFirstBadRow rows other → key ≡ other }

@@ -2,10 +2,10 @@
 ghost use Rattle.std.specs.Prelude.{◌≡◌, ◌⊎◌, ◌+◌, ◌<◌, ◌≤◌, [], MatchOption};
 ghost use Rattle.pocket_store.specs.Limits.{AreCounts};
 
-/// Of the fields of a collection.
+/// The most fields of a collection.
 pub(crate) const MOST_FIELDS: usize = 64;
 
-/// Of the bytes of a record's row text.
+/// The most bytes of a record's row text.
 pub(crate) const MOST_BYTES: usize = 65_536;
 
 const MOST_COLLECTIONS: u64 = 100;
