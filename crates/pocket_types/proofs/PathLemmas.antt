@@ -2,6 +2,7 @@
 use Rattle.std.proofs.Common.{◌≡◌, ℕ, zero, suc, ◌+◌, ◌<◌, ◌≤◌, List, [], ◌∷◌, ◌++◌, length, get_or, take, map, fold, refl, sym, ap, arith, add-one, ◌∙◌}
 use Rattle.std.proofs.lemmas.Grind.{common_steps}
 use Rattle.std.proofs.lemmas.List.{map-append}
+use Rattle.std.proofs.Math.Seq.{take-length}
 use Rattle.pocket_types.specs.declared.resolved.Prefix.{Prefix}
 use Rattle.pocket_types.specs.declared.resolved.Step.{Step}
 use Rattle.pocket_types.specs.Paths.{beginnings, begun, with_prefix}
@@ -48,16 +49,14 @@ length-begun p = grind (arith, common_steps, length-beginnings p.steps)
 pub begun-all : (p : Prefix) → take (length p.steps + 1) (begun p) ≡ begun p
 begun-all p = grind (arith, common_steps, length-begun p)
 
--- one more item, which is x
-pub take_one_more : {X : Type 0} (xs : List X) (k : ℕ) (x : X) → k < length xs → x ≡ get_or xs k x → take (k + 1) xs ≡ take k xs ++ x ∷ []
-take_one_more xs k x h e = grind (arith, common_steps)
+-- one more prefix leaves what stands in front
+kept_with : (front ps : List Prefix) (p : Prefix) → take (length front) ps ≡ front → take (length front) (with_prefix ps p) ≡ front
+kept_with front ps p h = grind (arith, common_steps)
 
--- a step of the loop over a prefix's steps
-pub begun_step : (old now new : List Prefix) (p part : Prefix) (items steps : List Step) (k : ℕ) (x : Step) → items ≡ p.steps → k < length items → x ≡ get_or items k x → part ≡ part_of p k → now ≡ fold with_prefix old (take (k + 1) (begun p)) → steps ≡ part.steps ++ x ∷ [] → new ≡ with_prefix now (record { root = part.root; steps = steps }) → (let next : Prefix = record { root = part.root; steps = steps } in next ≡ part_of p (k + 1)) × (new ≡ fold with_prefix old (take (k + 1 + 1) (begun p)))
-begun_step old now new p part items steps k x of_p l at is so more added =
-    let t : take (k + 1) items ≡ take k items ++ x ∷ [] = take_one_more items k x l at in
-    let longer : steps ≡ take (k + 1) p.steps = more ∙ ap (λ (q : Prefix). q.steps ++ x ∷ []) is ∙ ap (λ (xs : List Step). take k xs ++ x ∷ []) (sym of_p) ∙ sym t ∙ ap (take (k + 1)) of_p in
-    let within : k + 1 ≤ length p.steps = rw (← of_p) (omega arith) in
-    let root : part.root ≡ p.root = ap (λ (q : Prefix). q.root) is in
-    let same : (let next : Prefix = record { root = part.root; steps = steps } in next ≡ part_of p (k + 1)) = rw (root, longer) refl in
-    (same, added ∙ rw (same, so, add-one (k + 1)) (sym (add_more old p (k + 1) within)))
+-- so do several
+kept_fold : (front ps more : List Prefix) → take (length front) ps ≡ front → take (length front) (fold with_prefix ps more) ≡ front
+kept_fold front ps [] h = h
+kept_fold front ps (p ∷ more) h = kept_fold front (with_prefix ps p) more (kept_with front ps p h)
+
+pub kept_begun : (ps now : List Prefix) (p : Prefix) (k : ℕ) → now ≡ fold with_prefix ps (take k (begun p)) → take (length ps) now ≡ ps
+kept_begun ps now p k h = rw h (kept_fold ps ps (take k (begun p)) (take-length ps))

@@ -2,7 +2,7 @@
 ghost use Rattle.std.specs.Prelude.{◌≡◌, ◌↔◌, IfOk, IsTrue};
 ghost use Rattle.std.specs.Bool.{Decides};
 
-use std::alloc::AllocError;
+use std::alloc::{AllocError, Global};
 
 /// Types whose `clone` gives the same value.
 pub trait Faithful: Clone {
@@ -19,6 +19,13 @@ pub fn copied<T: Faithful>(value: &T) -> Result<T, AllocError>
     ensures { IfOk result (λ copy. copy ≡ value.now) }
 {
     value.clone()
+}
+
+/// A copy of each item, the same values.
+pub fn copied_items<T: Faithful>(alloc: Global, items: &[T]) -> Result<Vec<T>, AllocError>
+    ensures { IfOk result (λ copies. copies.items ≡ items.now) }
+{
+    Vec::from_clones(alloc, items)
 }
 
 /// Whether the two are the same value.

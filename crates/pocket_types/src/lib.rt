@@ -23,13 +23,13 @@ mod values;
 mod world;
 
 pub use boxed::Boxed;
-pub use exact::{Exact, Faithful, copied, is_same};
+pub use exact::{Exact, Faithful, copied, copied_items, is_same};
 pub use expr::{Expr, Op, Operand, Part};
 pub use failed::Failed;
 pub use faults::{FilterFault, ResolveFault};
 pub use ids::Id;
-pub use json::{Jv, Member};
-pub use moments::Moment;
+pub use json::{Jv, Member, NUMBER_END};
+pub use moments::{FIRST_MILLIS, LAST_MILLIS, Moment};
 pub use names::{Name, NameFault};
 pub use records::{Cell, Collection, Field, Kind, Rec, Rule};
 pub use requests::{Action, Ask, Caller, Context, Method, Pair, Sent};

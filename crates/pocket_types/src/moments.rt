@@ -3,9 +3,11 @@ ghost use Rattle.std.specs.Prelude.{◌≡◌, MatchOption};
 use crate::exact::{Exact, Faithful};
 use std::marker::Model;
 
-const FIRST_MILLIS: i64 = -62_135_596_800_000;
+/// The first moment, 0001-01-01 00:00:00.000Z, in milliseconds since 1970-01-01.
+pub const FIRST_MILLIS: i64 = -62_135_596_800_000;
 
-const LAST_MILLIS: i64 = 253_402_300_799_999;
+/// The last moment, 9999-12-31 23:59:59.999Z, in milliseconds since 1970-01-01.
+pub const LAST_MILLIS: i64 = 253_402_300_799_999;
 
 /// A moment in UTC: milliseconds since 1970-01-01, in the years 1 to 9999.
 #[derive(Clone, Copy, Debug, PartialEq, Eq, PartialOrd, Ord)]

@@ -1,12 +1,15 @@
 ghost use Rattle.std.specs.Prelude.{◌≡◌, [], ◌∷◌, ◌++◌, ◌<◌, ◌^◌, length, slice_get, IsTrue, ◌↔◌, IfOk, OnOk, OnErr, OnSome};
 ghost use Rattle.std.specs.Option.{option_copied};
+ghost use Rattle.std.specs.Slice.Iter.{iter_rest};
+ghost use Rattle.std.specs.Iterator.Adapters.{IterYieldsInOrder};
 
-use crate::exact::{Exact, Faithful};
+use crate::exact::{Exact, Faithful, copied_items};
 use std::alloc::{AllocError, Global};
 use std::marker::Model;
+use std::slice::Iter;
 
 /// A `Vec` that contracts see as the list of its items.
-#[derive(Debug, Drop)]
+#[derive(Drop)]
 pub struct Seq<T>(Vec<T>);
 
 impl<T> Model for Seq<T> {
@@ -57,6 +60,16 @@ impl<T> Seq<T> {
         self.0.as_slice()
     }
 
+    /// The items in order, borrowed one by one.
+    pub fn iter(&self) -> Iter<'_, T>
+        ensures rest { iter_rest result ≡ self.now }
+        ensures len { length (iter_rest result) ≡ length self.now }
+        ensures bound { length (iter_rest result) < 2 ^ 64 }
+        ensures runs { IterYieldsInOrder T }
+    {
+        self.0.as_slice().iter()
+    }
+
     /// The number of items.
     pub fn len(&self) -> usize
         ensures { result ≡ length self.now }
@@ -91,19 +104,15 @@ impl<T: Drop> Seq<T> {
     }
 }
 
-impl<T: Faithful + Drop> Clone for Seq<T> {
+impl<T: Faithful> Clone for Seq<T> {
     ghost is_clone = { λ a b. b ≡ a };
 
     fn clone(&self) -> Result<Seq<T>, AllocError> {
-        let mut copies = self.emptied();
-        for item in self.as_slice() {
-            copies.push(item.clone()?)?;
-        }
-        Ok(copies)
+        Ok(Seq(copied_items(*self.0.allocator(), self.as_slice())?))
     }
 }
 
-impl<T: Faithful + Drop> Faithful for Seq<T> {
+impl<T: Faithful> Faithful for Seq<T> {
     ghost clone_is_same = { λ _ _ same. same };
 }
 

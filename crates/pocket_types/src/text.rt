@@ -1,4 +1,4 @@
-ghost use Rattle.std.specs.Prelude.{◌≡◌, IfOk, length};
+ghost use Rattle.std.specs.Prelude.{◌≡◌, ◌↔◌, [], IfOk, IsTrue, length};
 ghost use Rattle.std.specs.String.{string_bytes};
 
 use crate::exact::{Exact, Faithful};
@@ -55,6 +55,13 @@ impl Text {
         ensures { result ≡ length self.now }
     {
         self.0.len()
+    }
+
+    /// Whether there is no byte.
+    pub fn is_empty(&self) -> bool
+        ensures { IsTrue result ↔ (self.now ≡ []) }
+    {
+        self.0.is_empty()
     }
 }
 

@@ -27,7 +27,6 @@ impl World {
         ensures { option_copied result ≡ shelf_named name.now self.now.shelves }
     {
         self.shelves
-            .as_slice()
             .iter()
             .find(|shelf| shelf.collection.name == *name)
     }
@@ -41,6 +40,6 @@ impl Shelf {
     pub fn rec(&self, id: Id) -> Option<&Rec>
         ensures { option_copied result ≡ rec_of id self.now.recs }
     {
-        self.recs.as_slice().iter().find(|rec| rec.id == id)
+        self.recs.iter().find(|rec| rec.id == id)
     }
 }
