@@ -1,10 +1,9 @@
 use crate::boxed::Boxed;
-use crate::exact::Faithful;
 use crate::seq::Seq;
 use crate::text::Text;
 
 /// How a comparison compares.
-#[derive(Clone, Copy, Debug, PartialEq, Eq)]
+#[derive(Clone, Copy, PartialEq, Eq)]
 pub enum Op {
     Eq,
     Ne,
@@ -19,14 +18,14 @@ pub enum Op {
 }
 
 /// A part of a path, as it is written: a name, and perhaps a suffix after `:`.
-#[derive(Clone, Debug, Drop)]
+#[derive(Drop)]
 pub struct Part {
     pub name: Text,
     pub suffix: Option<Text>,
 }
 
 /// One side of a comparison, as it is written.
-#[derive(Clone, Debug, Drop)]
+#[derive(Drop)]
 pub enum Operand {
     /// A path. With `sign` it begins with `@`.
     Ident { sign: bool, parts: Seq<Part> },
@@ -49,16 +48,4 @@ pub enum Expr {
     },
     And(Boxed<Expr>, Boxed<Expr>),
     Or(Boxed<Expr>, Boxed<Expr>),
-}
-
-impl Faithful for Part {
-    ghost use Rattle.std.proofs.Common.{rules};
-
-    ghost clone_is_same = { Prim.search rules };
-}
-
-impl Faithful for Operand {
-    ghost use Rattle.std.proofs.Common.{rules};
-
-    ghost clone_is_same = { Prim.search rules };
 }

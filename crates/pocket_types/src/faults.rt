@@ -1,50 +1,116 @@
 use crate::text::Text;
 use std::alloc::{AllocError, AllocFailed};
-use thiserror::Error;
+use std::error::Error;
+use std::fmt;
 
 /// Why a text isn't a filter. A place is a byte of the text, counted from 0.
-#[derive(Clone, Copy, Debug, PartialEq, Eq, Error)]
+#[derive(Clone, Copy, PartialEq, Eq)]
 pub enum FilterFault {
-    #[error("at {0} stands a byte that no name, text, number or operator begins with, or a `.` or `:` without a name after it")]
     BadByte(u32),
-    #[error("the text that begins at {0} has no closing quote")]
     OpenString(u32),
-    #[error("at {0} a filter can't go on like this")]
     Unexpected(u32),
-    #[error("a filter has at most 3500 bytes")]
     TooLong,
-    #[error("a filter has at most 16 open parentheses")]
     TooDeep,
-    #[error("a filter has at most 100 comparisons")]
     TooMany,
-    #[error("the number at {0} is over 9007199254740991 in size")]
     NumberRange(u32),
-    #[error("out of memory")]
     Memory,
 }
 
 /// Why a filter's names lead nowhere. The place is the number of the operand, counted from 0 from the left.
-#[derive(Debug, Drop, Error)]
+#[derive(Drop)]
 pub enum ResolveFault {
-    #[error("there is no collection {0}")]
     NoCollection(Text),
-    #[error("there is no field {0} here")]
     NoField(Text),
-    #[error("the field {0} is no relation that leads on from here")]
     NotRelation(Text),
-    #[error("operand {0} has a modifier that doesn't stand there")]
     BadModifier(u32),
-    #[error("a path has at most 6 steps over relations")]
     TooManySteps,
-    #[error("a filter has at most 12 different paths to related records")]
     TooManyPrefixes,
-    #[error("operand {0} may only stand in a rule, or in a filter of the administrator")]
     SuperuserOnly(u32),
-    #[error("the field {0} is hidden")]
     HiddenField(Text),
-    #[error("out of memory")]
     Memory,
 }
+
+impl FilterFault {
+    /// What is wrong, behind the place where there is one.
+    fn reason(self) -> &'static str {
+        match self {
+            FilterFault::BadByte(_) => {
+                "stands a byte that no name, text, number or operator begins with, or a `.` or `:` without a name after it"
+            }
+            FilterFault::OpenString(_) => "begins a text that has no closing quote",
+            FilterFault::Unexpected(_) => "a filter can't go on like this",
+            FilterFault::TooLong => "a filter has at most 3500 bytes",
+            FilterFault::TooDeep => "a filter has at most 16 open parentheses",
+            FilterFault::TooMany => "a filter has at most 100 comparisons",
+            FilterFault::NumberRange(_) => "stands a number over 9007199254740991 in size",
+            FilterFault::Memory => "out of memory",
+        }
+    }
+}
+
+impl fmt::Display for FilterFault {
+    fn fmt<W: fmt::Write>(&self, f: &mut fmt::Formatter<W>) -> fmt::Result {
+        match self {
+            FilterFault::BadByte(at)
+            | FilterFault::OpenString(at)
+            | FilterFault::Unexpected(at)
+            | FilterFault::NumberRange(at) => write!(f, "at {at} {}", self.reason()),
+            _ => f.write_str(self.reason()),
+        }
+    }
+}
+
+impl fmt::Debug for FilterFault {
+    fn fmt<W: fmt::Write>(&self, f: &mut fmt::Formatter<W>) -> fmt::Result {
+        fmt::Display::fmt(self, f)
+    }
+}
+
+impl Error for FilterFault {}
+
+impl ResolveFault {
+    /// What is wrong, behind the name or the operand where there is one.
+    fn reason(&self) -> &'static str {
+        match self {
+            ResolveFault::NoCollection(_) => "there is no such collection",
+            ResolveFault::NoField(_) => "there is no such field here",
+            ResolveFault::NotRelation(_) => "this field is no relation that leads on from here",
+            ResolveFault::BadModifier(_) => "has a modifier that doesn't stand there",
+            ResolveFault::TooManySteps => "a path has at most 6 steps over relations",
+            ResolveFault::TooManyPrefixes => {
+                "a filter has at most 12 different paths to related records"
+            }
+            ResolveFault::SuperuserOnly(_) => {
+                "may only stand in a rule, or in a filter of the administrator"
+            }
+            ResolveFault::HiddenField(_) => "this field is hidden",
+            ResolveFault::Memory => "out of memory",
+        }
+    }
+}
+
+impl fmt::Display for ResolveFault {
+    fn fmt<W: fmt::Write>(&self, f: &mut fmt::Formatter<W>) -> fmt::Result {
+        match self {
+            ResolveFault::NoCollection(name)
+            | ResolveFault::NoField(name)
+            | ResolveFault::NotRelation(name)
+            | ResolveFault::HiddenField(name) => write!(f, "{name}: {}", self.reason()),
+            ResolveFault::BadModifier(operand) | ResolveFault::SuperuserOnly(operand) => {
+                write!(f, "operand {operand} {}", self.reason())
+            }
+            _ => f.write_str(self.reason()),
+        }
+    }
+}
+
+impl fmt::Debug for ResolveFault {
+    fn fmt<W: fmt::Write>(&self, f: &mut fmt::Formatter<W>) -> fmt::Result {
+        fmt::Display::fmt(self, f)
+    }
+}
+
+impl Error for ResolveFault {}
 
 impl From<AllocError> for FilterFault {
     ghost use Rattle.std.specs.Prelude.{◌≡◌};

@@ -6,7 +6,7 @@ use crate::exact::{Exact, Faithful};
 use std::marker::Model;
 
 /// The id of a record: 15 bytes of `a-z0-9`. Order is that of the bytes.
-#[derive(Clone, Copy, Debug, PartialEq, Eq, PartialOrd, Ord)]
+#[derive(Clone, Copy, PartialEq, Eq, PartialOrd, Ord)]
 pub struct Id {
     bytes: [u8; 15],
 }

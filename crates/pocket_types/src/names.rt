@@ -6,8 +6,9 @@ use crate::exact::{Exact, Faithful};
 use crate::text::Text;
 use std::alloc::{AllocError, Global};
 use std::cmp::Ordering;
+use std::error::Error;
+use std::fmt;
 use std::marker::Model;
-use thiserror::Error;
 
 /// The name of a collection or a field: 1 to 50 characters, an ASCII letter and then ASCII letters, digits and `_`,
 /// without `_via_` and not ending in `_via`. Order is that of the bytes.
@@ -28,13 +29,24 @@ impl Model for Name {
 }
 
 /// Why a text gave no name.
-#[derive(Clone, Copy, Debug, PartialEq, Eq, Error)]
+#[derive(Clone, Copy, Debug)]
 pub enum NameFault {
-    #[error("a name is 1 to 50 letters, digits and `_`, begins with a letter, and has no `_via` before `_` or at its end")]
     BadName,
-    #[error("out of memory")]
     Memory,
 }
+
+impl fmt::Display for NameFault {
+    fn fmt<W: fmt::Write>(&self, f: &mut fmt::Formatter<W>) -> fmt::Result {
+        f.write_str(match self {
+            NameFault::BadName => {
+                "a name is 1 to 50 letters, digits and `_`, begins with a letter, and has no `_via` before `_` or at its end"
+            }
+            NameFault::Memory => "out of memory",
+        })
+    }
+}
+
+impl Error for NameFault {}
 
 fn is_word_byte(byte: u8) -> bool
     ensures { result ≡ is_word byte }

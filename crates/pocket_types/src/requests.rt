@@ -6,7 +6,7 @@ use crate::seq::Seq;
 use crate::text::Text;
 
 /// Who sent a request.
-#[derive(Debug, Drop)]
+#[derive(Drop)]
 pub enum Caller {
     /// Nobody that is known: no token, or none that is valid.
     Guest,
@@ -17,7 +17,7 @@ pub enum Caller {
 }
 
 /// The methods that requests may have.
-#[derive(Clone, Copy, Debug, PartialEq, Eq)]
+#[derive(Clone, Copy, Debug)]
 pub enum Method {
     Get,
     Post,
@@ -27,14 +27,14 @@ pub enum Method {
 }
 
 /// Whether a rule is judged for a reply or for a message to a subscriber.
-#[derive(Clone, Copy, Debug, PartialEq, Eq)]
+#[derive(Clone, Copy)]
 pub enum Context {
     Default,
     Realtime,
 }
 
 /// A name with its value: a header, or a part of a query.
-#[derive(Debug, Drop)]
+#[derive(Drop)]
 pub struct Pair {
     pub name: Text,
     pub value: Text,
@@ -60,7 +60,7 @@ pub struct Ask {
 }
 
 /// What is done with records, each under a rule of its own.
-#[derive(Clone, Copy, Debug, PartialEq, Eq)]
+#[derive(Clone, Copy)]
 pub enum Action {
     List,
     View,

@@ -7,7 +7,7 @@ use crate::text::Text;
 use crate::values::Value;
 
 /// Where a path begins.
-#[derive(Clone, Debug, Drop)]
+#[derive(Clone, Drop)]
 pub enum Root {
     /// The record that the filter is asked of.
     Home,
@@ -20,7 +20,7 @@ pub enum Root {
 }
 
 /// One step of a path.
-#[derive(Clone, Debug, Drop)]
+#[derive(Clone, Drop)]
 pub enum Step {
     /// To the records that a relation field holds.
     Forward(Name),
@@ -31,14 +31,14 @@ pub enum Step {
 }
 
 /// A root with steps.
-#[derive(Clone, Debug, Drop)]
+#[derive(Drop)]
 pub struct Prefix {
     pub root: Root,
     pub steps: Seq<Step>,
 }
 
 /// What is taken of a field, a header or a part of the query.
-#[derive(Clone, Copy, Debug, PartialEq, Eq)]
+#[derive(Clone, Copy)]
 pub enum Modifier {
     Plain,
     Length,
@@ -47,7 +47,7 @@ pub enum Modifier {
 }
 
 /// A value that follows from the moment of the request.
-#[derive(Clone, Copy, Debug, PartialEq, Eq)]
+#[derive(Clone, Copy, Debug)]
 pub enum Macro {
     Now,
     Second,
@@ -68,7 +68,7 @@ pub enum Macro {
 }
 
 /// One side of a comparison, its names looked up. A field may also be `id`, `created`, `updated` or `collectionName`.
-#[derive(Debug, Drop)]
+#[derive(Drop)]
 pub enum Leaf {
     Fixed(Value),
     Of {
@@ -108,12 +108,6 @@ impl Faithful for Root {
 }
 
 impl Faithful for Step {
-    ghost use Rattle.std.proofs.Common.{rules};
-
-    ghost clone_is_same = { Prim.search rules };
-}
-
-impl Faithful for Prefix {
     ghost use Rattle.std.proofs.Common.{rules};
 
     ghost clone_is_same = { Prim.search rules };

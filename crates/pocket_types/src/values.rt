@@ -2,7 +2,7 @@ use crate::exact::Faithful;
 use crate::text::Text;
 
 /// What a cell, a literal or a part of a request is worth in a comparison.
-#[derive(Clone, Debug, Drop)]
+#[derive(Clone, Drop)]
 pub enum Value {
     Nothing,
     Num(i64),
