@@ -3,6 +3,7 @@ ghost use Rattle.std.specs.Prelude.{◌≡◌, ◌<◌, ◌==◌, slice_index, l
 ghost use Rattle.pocket_json.specs.Reading.{whole_of, from_zero as from_zero_of, below_zero as below_zero_of};
 
 use fast_float::Numeral;
+use pocket_types::NUMBER_END;
 
 /// The number that a number of the grammar is.
 pub fn whole(text: &str) -> Option<i64>
@@ -27,11 +28,7 @@ fn from_zero(numeral: &Numeral<'_>) -> Option<i64>
     ensures { result ≡ from_zero_of numeral.now }
 {
     match numeral.to_u64() {
-        Some(n) => if n < 9_007_199_254_740_992 {
-            Some(n as i64)
-        } else {
-            None
-        },
+        Some(n) => if n < NUMBER_END { Some(n as i64) } else { None },
         None => None,
     }
 }
@@ -40,7 +37,7 @@ fn below_zero(numeral: &Numeral<'_>) -> Option<i64>
     ensures { result ≡ below_zero_of numeral.now }
 {
     match numeral.to_u64() {
-        Some(n) => if 0 < n && n < 9_007_199_254_740_992 {
+        Some(n) => if 0 < n && n < NUMBER_END {
             Some(-(n as i64))
         } else {
             None

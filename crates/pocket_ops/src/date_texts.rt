@@ -38,6 +38,17 @@ pub fn civil_text(civil: &Civil) -> [u8; 24]
     ]
 }
 
+/// The text that the bytes of a date are.
+pub fn as_text(bytes: &[u8; 24]) -> &str
+    requires { IsUtf8 bytes.now }
+    ensures { result.now ≡ bytes.now }
+{
+    match str::from_utf8(bytes) {
+        Ok(text) => text,
+        Err(_) => unreachable!(),
+    }
+}
+
 fn digit(n: u32) -> u8
     requires { n < 10 }
     ensures { result ≡ digit_char n }

@@ -6,16 +6,12 @@ ghost use Rattle.pocket_ops.specs.Dates.{civil_text as text_of_civil};
 ghost use Rattle.pocket_ops.specs.Macros.{macro_value, day_earlier, day_later, day_start, day_end, month_start, month_end, year_start, year_end};
 
 use crate::calendar::{Civil, civil_of, weekday};
-use crate::date_texts::civil_text;
+use crate::date_texts::{as_text, civil_text};
 use jiff_core::civil::days_in_month;
-use pocket_types::{Macro, Moment, Text, Value};
+use pocket_types::{FIRST_MILLIS, LAST_MILLIS, Macro, Moment, Text, Value};
 use std::alloc::{AllocError, Global};
 
 const DAY: i64 = 86_400_000;
-
-const FIRST_MILLIS: i64 = -62_135_596_800_000;
-
-const LAST_MILLIS: i64 = 253_402_300_799_999;
 
 /// The value of a macro at a moment.
 #[tactic(auto, unfolding(crate::specs::Macros::macro_value))]
@@ -54,10 +50,7 @@ fn text_value(alloc: Global, civil: &Civil) -> Result<Value, AllocError>
     ensures { IfOk result (λ value. value ≡ Value.Text (text_of_civil civil.now)) }
 {
     let bytes = civil_text(civil);
-    match std::str::from_utf8(&bytes) {
-        Ok(text) => Ok(Value::Text(Text::from_str(alloc, text)?)),
-        Err(_) => unreachable!(),
-    }
+    Ok(Value::Text(Text::from_str(alloc, as_text(&bytes))?))
 }
 
 fn moment_at(millis: i64) -> Moment

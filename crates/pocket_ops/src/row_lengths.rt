@@ -8,7 +8,7 @@ ghost use Rattle.pocket_ops.specs.Lengths.{held, row_len, are_apart, is_undated,
 ghost use Rattle.pocket_types.specs.Maps.{map_jv};
 ghost use Rattle.pocket_ops.specs.Trees.{text_jv, date_jv, items_jv, cell_jv, date_members};
 
-use crate::date_texts::date_text;
+use crate::date_texts::{as_text, date_text};
 use crate::lengths::{ids_len, member_len, num_len, text_len, texts_len, tree_len};
 use pocket_types::{Cell, Collection, Field, Id, Kind, Moment, Rec, Text};
 
@@ -16,10 +16,8 @@ use pocket_types::{Cell, Collection, Field, Id, Kind, Moment, Rec, Text};
 fn moment_len(moment: &Moment) -> u64
     ensures { result ≡ held (length (printed (text_jv (date_text moment.now)))) }
 {
-    match str::from_utf8(&date_text(*moment)) {
-        Ok(text) => text_len(text),
-        Err(_) => unreachable!(),
-    }
+    let bytes = date_text(*moment);
+    text_len(as_text(&bytes))
 }
 
 fn date_len(date: &Option<Moment>) -> u64

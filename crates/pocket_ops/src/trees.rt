@@ -5,7 +5,7 @@ ghost use Rattle.pocket_ops.specs.Dates.{date_text};
 ghost use Rattle.pocket_types.specs.Maps.{map_jv, member_of};
 ghost use Rattle.pocket_ops.specs.Trees.{text_jv, num_jv, flag_jv};
 
-use crate::date_texts::date_text;
+use crate::date_texts::{as_text, date_text};
 use pocket_types::{Id, Jv, Member, Moment, Seq, Text};
 use std::alloc::{AllocError, Global};
 use std::collections::BTreeMap;
@@ -21,10 +21,7 @@ pub fn moment_text(alloc: Global, moment: Moment) -> Result<Text, AllocError>
     ensures { IfOk result (λ t. t ≡ date_text moment) }
 {
     let bytes = date_text(moment);
-    match str::from_utf8(&bytes) {
-        Ok(text) => Text::from_str(alloc, text),
-        Err(_) => unreachable!(),
-    }
+    Text::from_str(alloc, as_text(&bytes))
 }
 
 pub fn moment_jv(alloc: Global, moment: &Moment) -> Result<Jv, AllocError>

@@ -5,5 +5,5 @@ use Rattle.pocket_ops.proofs.row_lengths.moment_len.Goals as goal
 
 pub returns : goal.returns
 returns c =
-    let same : c.in-Ok.text.now ≡ date_text c.args.moment.now = search rules in
-    moment_len-is c.args.moment.now c.text_len.result c.in-Ok.text.now same c.text_len.ensures
+    let same : c.as_text.result.now ≡ date_text c.args.moment.now = search rules in
+    moment_len-is c.args.moment.now c.text_len.result c.as_text.result.now same c.text_len.ensures
