@@ -1,12 +1,11 @@
 -- What is true of the shelves while the rows are read one by one.
-use Rattle.std.proofs.Common.{◌≡◌, ◌↔◌, ◌⊎◌, inl, inr, ℕ, zero, suc, ◌+◌, ◌<◌, ◌≤◌, List, [], ◌∷◌, ◌++◌, Some, length, get_or, map, take, drop, refl, sym, ◌∙◌, ap, subst, arith, All, codes}
+use Rattle.std.proofs.Common.{◌≡◌, ◌↔◌, ◌⊎◌, inl, inr, ℕ, zero, suc, ◌+◌, ◌<◌, ◌≤◌, List, [], ◌∷◌, ◌++◌, Some, length, get_or, take, drop, refl, sym, ◌∙◌, ap, subst, arith, All}
 use Rattle.std.specs.Prelude.{Contains, slice_get, slice_set}
-use Rattle.std.specs.List.{flat_map}
-use Rattle.std.proofs.lemmas.Grind.{common_steps, flat_map-append}
-use Rattle.std.proofs.lemmas.List.{take_more, map-append, take-append-drop}
+use Rattle.std.proofs.lemmas.Grind.{flat_map-append}
+use Rattle.std.proofs.lemmas.List.{take_more, take-append-drop}
 use Rattle.std.proofs.lemmas.List.Elements.{All-push, All-set}
 use Rattle.pocket_types.specs.Order.{IsBefore, Rises}
-use Rattle.pocket_types.proofs.OrderLemmas.{before_from_append, not_before_itself, not_before_back, rises_nil, rises_push, rises_cons, rises_first, rises_rest, rises_across, rises_back}
+use Rattle.pocket_types.proofs.OrderLemmas.{not_before_back, rises_nil, rises_push, rises_cons, rises_first, rises_rest, rises_back}
 use Rattle.pocket_types.specs.declared.records.Collection.{Collection}
 use Rattle.pocket_types.specs.declared.records.Rec.{Rec}
 use Rattle.pocket_types.specs.declared.world.Shelf.{Shelf}
@@ -14,20 +13,21 @@ use Rattle.pocket_keeper.specs.Plain.{IsPlainCollection, IsPlainRec, LacksRec}
 use Rattle.pocket_keeper.specs.Rows.{IsRising}
 use Rattle.pocket_keeper.specs.Texts.{collection_row, rec_row}
 use Rattle.pocket_keeper.specs.declared.rows.KeptRow.{KeptRow}
+use Rattle.pocket_store.specs.Drafts.{with_rec}
 use Rattle.pocket_store.specs.Stores.{shelf_rows}
 use Rattle.pocket_core.specs.Opening.{IsGoodRow, IsFirstBadRow, IsPlainShelf, IsWorldOf}
-use Rattle.pocket_core.specs.Reading.{AddsRow, AddsShelf, AddsRec, HoldsRecAt, IsFaultOf, LacksRow, NamesRow, with_rec}
+use Rattle.pocket_core.specs.Reading.{AddsRow, AddsShelf, AddsRec, HoldsRecAt, IsFaultOf, LacksRow, NamesRow}
 use Rattle.pocket_core.specs.declared.opening.StartFault.{StartFault}
 use Rattle.pocket_core.specs.declared.opening.StartFault.TheVariants.{KeeperFault, BadStore, Memory}
-use Rattle.pocket_core.proofs.ListLemmas.{IsIn, in_from_contains, contains_from_in, in_front, in_back, in_either, all_in, all_from_in, in_from_get}
+use Rattle.pocket_store.proofs.LawLemmas.{no_collection_and_rec}
+use Rattle.pocket_store.proofs.ListLemmas.{IsIn, all_in, all_from_in, contains_from_in, in_back, in_either, in_from_contains, in_from_get, in_front, in_map, in_map_back, parts_at, take_all}
+use Rattle.pocket_store.proofs.ReadableLemmas.{got_is, names_before, read_before}
+use Rattle.pocket_store.proofs.SearchLemmas.{key_of}
+use Rattle.pocket_store.proofs.StoreLemmas.{ids_before, in_shelf, rec_more, shelf_of, shelf_rows_more, shelves_rows}
 
 -- a plain collection that has the row of this shelf's is this shelf's
 abbrev pub IsOnly : Shelf → Type 0
 IsOnly s = (d : Collection) → IsPlainCollection d → collection_row s.collection ≡ collection_row d → d ≡ s.collection
-
--- the rows of some shelves
-abbrev pub shelves_rows : List Shelf → List KeptRow
-shelves_rows shelves = flat_map shelf_rows shelves
 
 -- the shelves hold what the first k rows hold, and nothing else
 pub record AreReadFrom (rows : List KeptRow) (k : ℕ) (shelves : List Shelf) : Type 0 where
@@ -37,67 +37,10 @@ pub record AreReadFrom (rows : List KeptRow) (k : ℕ) (shelves : List Shelf) : 
   pub rising : Rises (λ s. s.collection.name) shelves
   pub only : All IsOnly shelves
 
--- ---- places in rows that rise
-
-pub parts_at : {X : Type 0} (xs : List X) (k : ℕ) (d : X) → k < length xs → xs ≡ take k xs ++ get_or xs k d ∷ drop (suc k) xs
-parts_at [] k d h = absurd (omega (arith, h))
-parts_at (x ∷ xs) zero d h = refl
-parts_at (x ∷ xs) (suc k) d h = ap (λ t. x ∷ t) (parts_at xs k d (omega (arith, h)))
-
-abbrev key_of : KeptRow → List ℕ
-key_of row = row.key
-
--- rows that were read stand before the next one
-pub read_before : (rows : List KeptRow) (k : ℕ) (row x : KeptRow) → IsRising rows → k < length rows → row ≡ get_or rows k row → IsIn x (take k rows)
-    → IsBefore x.key row.key
-read_before rows k row x rising within is h =
-    let parts : rows ≡ take k rows ++ row ∷ drop (suc k) rows = parts_at rows k row within ∙ ap (λ r. take k rows ++ r ∷ drop (suc k) rows) (sym is) in
-    let split : Rises key_of (take k rows ++ row ∷ drop (suc k) rows) = subst (λ r. Rises key_of r) parts rising in
-    all_in (λ y. IsBefore y.key row.key) (take k rows) x (rises_across key_of (take k rows) row (drop (suc k) rows) split) h
-
 -- ---- keys of the two kinds
 
 pub collection_before_rec : (c : Collection) (d : Collection) (r : Rec) → IsBefore (collection_row c).key (rec_row d r).key
 collection_before_rec c d r = refl
-
-pub collection_is_no_rec : (c d : Collection) (r : Rec) → collection_row c ≡ rec_row d r → ⊥
-collection_is_no_rec c d r e =
-    not_before_itself (rec_row d r).key (subst (λ x. IsBefore (key_of x) (rec_row d r).key) e (collection_before_rec c d r))
-
-pub names_before : (c d : Collection) → IsBefore (collection_row c).key (collection_row d).key → IsBefore c.name d.name
-names_before c d h = before_from_append (codes "c/") c.name d.name h
-
-pub ids_before : (c : Collection) (r q : Rec) → IsBefore (rec_row c r).key (rec_row c q).key → IsBefore r.id q.id
-ids_before c r q h =
-    before_from_append (47 ∷ []) r.id q.id
-    (before_from_append c.name (47 ∷ r.id) (47 ∷ q.id) (before_from_append (codes "r/") (c.name ++ (47 ∷ r.id)) (c.name ++ (47 ∷ q.id)) h))
-
--- ---- rows of shelves
-
-in_shelf : (s : Shelf) (x : KeptRow) (shelves : List Shelf) → IsIn s shelves → IsIn x (shelf_rows s) → IsIn x (shelves_rows shelves)
-in_shelf s x [] h i = absurd h
-in_shelf s x (t ∷ ts) (inl e) i = in_front (shelf_rows t) (shelves_rows ts) x (subst (λ u. IsIn x (shelf_rows u)) e i)
-in_shelf s x (t ∷ ts) (inr h) i = in_back (shelf_rows t) (shelves_rows ts) x (in_shelf s x ts h i)
-
--- a row of the shelves is one of some shelf
-pub shelf_of : (x : KeptRow) (shelves : List Shelf) → IsIn x (shelves_rows shelves) → (s : Shelf) × IsIn s shelves × IsIn x (shelf_rows s)
-shelf_of x [] h = absurd h
-shelf_of x (t ∷ ts) h =
-    elim (in_either (shelf_rows t) (shelves_rows ts) x h) [
-      | inl here ↦ (t, inl refl, here)
-      | inr later ↦ let rest = shelf_of x ts later in (rest.0, inr rest.1, rest.2)
-    ]
-
--- a row among records' rows is a record's
-rec_of_row : (c : Collection) (x : KeptRow) (recs : List Rec) → IsIn x (map (rec_row c) recs) → (r : Rec) × IsIn r recs × (x ≡ rec_row c r)
-rec_of_row c x [] h = absurd h
-rec_of_row c x (r ∷ rs) (inl e) = (r, inl refl, e)
-rec_of_row c x (r ∷ rs) (inr h) = let rest = rec_of_row c x rs h in (rest.0, inr rest.1, rest.2)
-
-row_of_rec : (c : Collection) (r : Rec) (recs : List Rec) → IsIn r recs → IsIn (rec_row c r) (map (rec_row c) recs)
-row_of_rec c r [] h = absurd h
-row_of_rec c r (q ∷ qs) (inl e) = inl (ap (rec_row c) e)
-row_of_rec c r (q ∷ qs) (inr h) = inr (row_of_rec c r qs h)
 
 -- ---- one row more
 
@@ -126,9 +69,6 @@ shelf_more shelves c = flat_map-append shelf_rows shelves (record { collection =
 
 -- ---- a record more
 
-shelf_rows_more : (s : Shelf) (r : Rec) → shelf_rows (with_rec s r) ≡ shelf_rows s ++ rec_row s.collection r ∷ []
-shelf_rows_more s r = ap (λ t. collection_row s.collection ∷ t) (map-append (rec_row s.collection) s.recs (r ∷ []))
-
 rec_more_into : (shelves : List Shelf) (at : ℕ) (s : Shelf) (r : Rec) (x : KeptRow) → slice_get shelves at ≡ Some s
     → IsIn x (shelves_rows (slice_set shelves at (with_rec s r))) → IsIn x (shelves_rows shelves) ⊎ (x ≡ rec_row s.collection r)
 rec_more_into [] at s r x e h = absurd h
@@ -150,34 +90,6 @@ rec_more_into (t ∷ ts) (suc at) s r x e h =
             | inl old ↦ inl (in_back (shelf_rows t) (shelves_rows ts) x old)
             | inr q ↦ inr q
           ]
-    ]
-
-rec_more_from : (shelves : List Shelf) (at : ℕ) (s : Shelf) (r : Rec) (x : KeptRow) → slice_get shelves at ≡ Some s
-    → IsIn x (shelves_rows shelves) ⊎ (x ≡ rec_row s.collection r) → IsIn x (shelves_rows (slice_set shelves at (with_rec s r)))
-rec_more_from [] at s r x e h = cc
-rec_more_from (t ∷ ts) zero s r x e h =
-    let same : t ≡ s = cc in
-    elim h [
-      | inl old ↦
-          elim (in_either (shelf_rows t) (shelves_rows ts) x old) [
-            | inl here ↦
-                in_front (shelf_rows (with_rec s r)) (shelves_rows ts) x
-                (subst (λ l. IsIn x l) (sym (shelf_rows_more s r))
-                (in_front (shelf_rows s) (rec_row s.collection r ∷ []) x (subst (λ u. IsIn x (shelf_rows u)) same here)))
-            | inr later ↦ in_back (shelf_rows (with_rec s r)) (shelves_rows ts) x later
-          ]
-      | inr q ↦
-          in_front (shelf_rows (with_rec s r)) (shelves_rows ts) x
-          (subst (λ l. IsIn x l) (sym (shelf_rows_more s r)) (in_back (shelf_rows s) (rec_row s.collection r ∷ []) x (inl q)))
-    ]
-rec_more_from (t ∷ ts) (suc at) s r x e h =
-    elim h [
-      | inl old ↦
-          elim (in_either (shelf_rows t) (shelves_rows ts) x old) [
-            | inl here ↦ in_front (shelf_rows t) (shelves_rows (slice_set ts at (with_rec s r))) x here
-            | inr later ↦ in_back (shelf_rows t) (shelves_rows (slice_set ts at (with_rec s r))) x (rec_more_from ts at s r x e (inl later))
-          ]
-      | inr q ↦ in_back (shelf_rows t) (shelves_rows (slice_set ts at (with_rec s r))) x (rec_more_from ts at s r x e (inr q))
     ]
 
 abbrev name_of : Shelf → List ℕ
@@ -209,7 +121,7 @@ good_row rows k shelves x read h =
     elim held.2 [
       | inl e ↦ inl (s.collection, sound.collection, e)
       | inr among ↦
-          let found = rec_of_row s.collection x s.recs among in
+          let found = in_map_back (rec_row s.collection) s.recs x among in
           let kept = read.from (collection_row s.collection) (in_shelf s (collection_row s.collection) shelves held.1 (inl refl)) in
           let has : Contains rows (collection_row s.collection) = contains_from_in rows (collection_row s.collection) (take_in rows k (collection_row s.collection) kept) in
           inr (s.collection, found.0, sound.collection, all_in IsPlainRec s.recs found.0 sound.recs found.1, has, found.2)
@@ -227,7 +139,7 @@ module _ (rows : List KeptRow) (k : ℕ) (shelves : List Shelf) (row : KeptRow) 
   shelf_in s h = in_shelf s (collection_row s.collection) shelves h (inl refl)
 
   rec_in : (s : Shelf) (r : Rec) → IsIn s shelves → IsIn r s.recs → IsIn (rec_row s.collection r) (shelves_rows shelves)
-  rec_in s r h i = in_shelf s (rec_row s.collection r) shelves h (inr (row_of_rec s.collection r s.recs i))
+  rec_in s r h i = in_shelf s (rec_row s.collection r) shelves h (inr (in_map (rec_row s.collection) s.recs r i))
 
   step_shelf : (new : List Shelf) → AddsShelf shelves row new → AreReadFrom rows (k + 1) new
   step_shelf new a =
@@ -279,7 +191,7 @@ module _ (rows : List KeptRow) (k : ℕ) (shelves : List Shelf) (row : KeptRow) 
       record {
         into = λ x h.
             subst (λ l. IsIn x (shelves_rows l)) (sym a.added)
-            (rec_more_from shelves a.at s r x place
+            (rec_more shelves a.at s r x place
             (elim ((in_more rows k row x within is).0 h) [
               | inl before ↦ inl (read.into x before)
               | inr q ↦ inr (q ∙ row_is)
@@ -310,7 +222,7 @@ module _ (rows : List KeptRow) (k : ℕ) (shelves : List Shelf) (row : KeptRow) 
       elim (in_either (take k rows) (row ∷ drop (suc k) rows) (collection_row c) among) [
         | inl before ↦ before
         | inr rest ↦ absurd (elim rest [
-          | inl q ↦ collection_is_no_rec c d r (q ∙ e)
+          | inl q ↦ no_collection_and_rec c d r (q ∙ e)
           | inr later ↦
               not_before_back (collection_row c).key (rec_row d r).key (collection_before_rec c d r)
               (subst (λ q. IsBefore (key_of q) (collection_row c).key) e
@@ -325,7 +237,7 @@ module _ (rows : List KeptRow) (k : ℕ) (shelves : List Shelf) (row : KeptRow) 
       let c_is : c ≡ s.collection = all_in IsOnly shelves s read.only i c p (sym same) in
       all_in (λ t. LacksRec t.collection row) shelves s lacks.recs i r q (subst (λ d. row ≡ rec_row d r) c_is e)
   not_held lacks s c r p q e i (inr other) =
-      let found = rec_of_row s.collection (collection_row c) s.recs other in collection_is_no_rec c s.collection found.0 found.2
+      let found = in_map_back (rec_row s.collection) s.recs (collection_row c) other in no_collection_and_rec c s.collection found.0 found.2
 
   pub bad_row : LacksRow shelves row → ¬ IsGoodRow rows row
   bad_row lacks (inl (c, p, e)) = lacks.collection c p e
@@ -355,9 +267,6 @@ none_read rows = record {
   only = λ k d w. absurd (omega (arith, w));
 }
 
-pub take_all : {X : Type 0} (xs : List X) (k : ℕ) → length xs ≤ k → take k xs ≡ xs
-take_all xs k h = grind (arith, common_steps)
-
 pub all_read : (rows : List KeptRow) (k : ℕ) (shelves : List Shelf) → length rows ≤ k → AreReadFrom rows k shelves
     → IsWorldOf rows (record { shelves = shelves })
 all_read rows k shelves h read =
@@ -372,11 +281,6 @@ all_read rows k shelves h read =
     }
 
 -- ---- one shelf
-
-pub got_is : {X : Type 0} (xs : List X) (k : ℕ) (x d : X) → slice_get xs k ≡ Some x → get_or xs k d ≡ x
-got_is [] k x d e = cc
-got_is (y ∷ ys) zero x d e = cc
-got_is (y ∷ ys) (suc k) x d e = got_is ys k x d e
 
 pub same_shelf : (i s : Shelf) (recs : List Rec) (r : Rec) → i ≡ s → recs ≡ i.recs ++ r ∷ []
     → (record { collection = i.collection; recs = recs }) ≡ with_rec s r

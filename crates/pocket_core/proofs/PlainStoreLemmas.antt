@@ -1,5 +1,5 @@
 -- The world that plain rows stand for is a sound state of these rows, where they are within the limits.
-use Rattle.std.proofs.Common.{◌≡◌, ◌≢◌, inl, inr, ◌≤◌, List, [], ◌∷◌, ◌++◌, append-nil, codes, length, map, refl, sym, ◌∙◌, ap, subst, arith, All, IsTrue}
+use Rattle.std.proofs.Common.{◌≡◌, ◌≢◌, inl, inr, ◌≤◌, List, [], ◌∷◌, append-nil, codes, length, map, refl, sym, ◌∙◌, ap, subst, arith, All, IsTrue}
 use Rattle.std.specs.Prelude.{◌↔◌, AllPairs, Contains, IfSome, sum_by, true, false}
 use Rattle.std.proofs.lemmas.List.{length-map}
 use Rattle.std.proofs.lemmas.List.Elements.{All-cons, All-nil}
@@ -23,17 +23,19 @@ use Rattle.pocket_keeper.specs.Plain.{HasPlainCell, HasPlainField, IsPlainCollec
 use Rattle.pocket_keeper.specs.Rows.{IsRising}
 use Rattle.pocket_keeper.specs.Texts.{collection_row, rec_row}
 use Rattle.pocket_keeper.specs.declared.rows.KeptRow.{KeptRow}
-use Rattle.pocket_rows.specs.Sound.{AllFit, Fits, IsSoundCollection, IsSoundField, IsSoundKind, IsSoundRec, IsWritten}
-use Rattle.pocket_rows.proofs.CollectionLemmas.{collection_once}
-use Rattle.pocket_store.specs.SoundStates.{AllHoldWithin, HoldsWithin, IsShelf, IsSoundRecIn, IsSoundShelf, IsSoundStored, IsSoundTokenIn, LeadsWithin, collections_of, text_len}
-use Rattle.pocket_store.specs.Stores.{AllHoldKept, AreReadable, AreWithinLimits, HasKey, HoldsKept, IsGoodRow, IsStoreOf, LeadsToKept, Resolves, RulesResolve, begins, collections_in, records_in, shelf_rows, value_len}
+use Rattle.pocket_types.specs.Sound.{AllFit, Fits, IsSoundCollection, IsSoundField, IsSoundKind, IsSoundRec, IsWritten}
+use Rattle.pocket_store.specs.SoundStates.{IsSoundRecIn, IsSoundShelf, IsSoundStored, IsSoundTokenIn}
+use Rattle.pocket_types.specs.Within.{AllHoldWithin, HoldsWithin, IsShelf, LeadsWithin, collections_of}
+use Rattle.pocket_ops.specs.Lengths.{row_len}
+use Rattle.pocket_store.specs.Stores.{AreWithinLimits, IsStoreOf, Resolves, RulesResolve, begins, collections_in, records_in, shelf_rows}
 use Rattle.pocket_store.specs.declared.stored.Stored.{Stored}
 use Rattle.pocket_store.proofs.ListLemmas.{IsIn, all_in, all_from_in, contains_from_in, in_from_contains, in_map, in_map_back, in_filter, of_filter}
+use Rattle.pocket_store.proofs.OpenLemmas.{sound_opens}
 use Rattle.pocket_store.proofs.RisingLemmas.{rising_same}
-use Rattle.pocket_core.proofs.RowOrderLemmas.{count_len, count_recs, key_of, name_of, rec_rows, rec_rows-back, rec_rows-in, rec_rows-rise}
+use Rattle.pocket_store.proofs.RowOrderLemmas.{count_len, count_recs, name_of, rec_rows, rec_rows-back, rec_rows-in, rec_rows-rise}
+use Rattle.pocket_store.proofs.SearchLemmas.{key_of}
 use Rattle.pocket_store.proofs.StoreLemmas.{in_shelf, shelf_of}
 use Rattle.pocket_core.specs.Opening as plain
-use Rattle.pocket_core.proofs.OpeningLemmas.{collection_is_no_rec}
 
 -- ---- plain collections and records are sound
 
@@ -110,19 +112,9 @@ rules_resolve cs c h = record {
 few_fields : (c : Collection) → IsPlainCollection c → length c.fields ≤ 64
 few_fields c h = omega (arith, one_field c.fields h.fields)
 
-targets_kept : (rows : List KeptRow) (c : Collection) → IsPlainCollection c → All (LeadsToKept rows) c.fields
-targets_kept rows c h =
-    all_fields (LeadsToKept rows) c.fields h.fields (λ f k. subst (λ kind. IfSome (target_of kind) (λ target. HasKey rows (codes "c/" ++ target))) (sym k.kind) tt)
-
 targets_within : (w : World) (c : Collection) → IsPlainCollection c → All (LeadsWithin w) c.fields
 targets_within w c h =
     all_fields (LeadsWithin w) c.fields h.fields (λ f k. subst (λ kind. IfSome (target_of kind) (λ target. (s : Shelf) × IsShelf w target s)) (sym k.kind) tt)
-
-cells_kept : (rows : List KeptRow) (fs : List Field) (cs : List Cell) → HasPlainField fs → AllHoldKept rows fs cs
-cells_kept rows [] cs h = absurd h
-cells_kept rows (f ∷ g ∷ fs) cs h = absurd h
-cells_kept rows (f ∷ []) [] h = tt
-cells_kept rows (f ∷ []) (c ∷ cs) h = (subst (λ kind. HoldsKept rows kind c) (sym h.kind) tt, tt)
 
 cells_within : (w : World) (fs : List Field) (cs : List Cell) → HasPlainField fs → AllHoldWithin w fs cs
 cells_within w [] cs h = absurd h
@@ -136,7 +128,7 @@ cells_within w (f ∷ []) (c ∷ cs) h = (subst (λ kind. HoldsWithin w kind c) 
 abbrev pub without_tokens : World → Stored
 without_tokens w = record { world = w; tokens = [] }
 
-module _ (rows : List KeptRow) (w : World) (rising : IsRising rows) (is : plain.IsWorldOf rows w) (within : AreWithinLimits rows) (short : All (λ row. value_len row ≤ 65536) (records_in rows)) where
+module _ (rows : List KeptRow) (w : World) (rising : IsRising rows) (is : plain.IsWorldOf rows w) (within : AreWithinLimits rows) (short : All (λ row. length row.value ≤ 65536) (records_in rows)) where
   plain_shelf : (s : Shelf) → IsIn s w.shelves → plain.IsPlainShelf s
   plain_shelf s i = all_in plain.IsPlainShelf w.shelves s is.plain.shelves i
 
@@ -162,70 +154,29 @@ module _ (rows : List KeptRow) (w : World) (rising : IsRising rows) (is : plain.
   collection_in : (s : Shelf) → IsIn s w.shelves → IsIn s.collection cs
   collection_in s i = in_map (λ s. s.collection) w.shelves s i
 
-  whole_by : (c : Collection) (s : Shelf) → IsSoundCollection c → IsIn s w.shelves → IsIn (collection_row c) (shelf_rows s) → IsIn c cs
-  whole_by c s sound i (inl e) =
-      subst (λ d. IsIn d cs) (sym (collection_once c s.collection sound (collection_sound s.collection (plain_shelf s i).collection) e)) (collection_in s i)
-  whole_by c s sound i (inr among) = let r = in_map_back (rec_row s.collection) s.recs (collection_row c) among in absurd (collection_is_no_rec c s.collection r.0 r.2)
-
-  whole : (c : Collection) → IsSoundCollection c → Contains rows (collection_row c) → Contains cs c
-  whole c sound there =
-      let s = shelf_there (collection_row c) (in_from_contains rows (collection_row c) there) in
-      contains_from_in cs c (whole_by c s.0 sound s.1 s.2)
-
   all_collections : (P : Collection → Type 0) → ((s : Shelf) → IsIn s w.shelves → P s.collection) → All P cs
   all_collections P h = all_from_in P cs (λ c i. let s = in_map_back (λ s. s.collection) w.shelves c i in subst P (sym s.2) (h s.0 s.1))
 
-  readable : AreReadable rows cs
-  readable = record {
-    sound = all_collections IsSoundCollection (λ s i. collection_sound s.collection (plain_shelf s i).collection);
-    kept = all_collections (λ c. Contains rows (collection_row c)) (λ s i. contains_from_in rows (collection_row s.collection) (row_there s (collection_row s.collection) i (inl refl)));
-    whole = whole;
-    rising = rises_map name_of (λ c. c.name) (λ s. s.collection) (λ s z h. h) w.shelves is.plain.rising;
-  }
+  collection_kept : (c : Collection) → IsIn c cs → IsIn (collection_row c) rows
+  collection_kept c i =
+      all_in (λ c. IsIn (collection_row c) rows) cs c (all_collections (λ c. IsIn (collection_row c) rows) (λ s j. row_there s (collection_row s.collection) j (inl refl))) i
 
   -- ---- the rows
 
   -- a record's row is short
-  rec_short : (c : Collection) (r : Rec) → IsIn (rec_row c r) rows → text_len c r ≤ 65536
-  rec_short c r i = all_in (λ row. value_len row ≤ 65536) (records_in rows) (rec_row c r) short (in_filter (begins (codes "r/")) rows (rec_row c r) i refl)
-
-  good_row : (x : KeptRow) → IsIn x rows → plain.IsGoodRow rows x → IsGoodRow rows cs x
-  good_row x i (inl (c, h, kept)) =
-      inl (c, record { sound = collection_sound c h; kept = kept; fits = record { rules = rules_resolve cs c h; targets = targets_kept rows c h; few = few_fields c h } })
-  good_row x i (inr (c, r, h, k, there, kept)) =
-      inr (inl (
-        c,
-        r,
-        whole c (collection_sound c h) there,
-        record {
-          sound = rec_sound c r h k;
-          kept = kept;
-          held = cells_kept rows c.fields r.cells h.fields;
-          short = subst (λ row. value_len row ≤ 65536) (sym kept) (rec_short c r (subst (λ row. IsIn row rows) kept i));
-        },
-      ))
-
-  pub plain_store : IsStoreOf rows (without_tokens w)
-  plain_store = record {
-    good = record {
-      collections = cs;
-      readable = readable;
-      good = all_from_in (IsGoodRow rows cs) rows (λ x i. good_row x i (all_in (plain.IsGoodRow rows) rows x is.good i));
-      within = within;
-    };
-    same = subst (λ l. (x : KeptRow) → Contains rows x ↔ Contains l x) (sym (append-nil (plain.rows_of w))) is.same;
-  }
+  rec_short : (c : Collection) (r : Rec) → IsIn (rec_row c r) rows → row_len c r ≤ 65536
+  rec_short c r i = all_in (λ row. length row.value ≤ 65536) (records_in rows) (rec_row c r) short (in_filter (begins (codes "r/")) rows (rec_row c r) i refl)
 
   -- ---- the limits
 
   same_collections : map collection_row cs ≡ collections_in rows
   same_collections =
       rising_same key_of (map collection_row cs) (collections_in rows)
-      (rises_map (λ c. c.name) key_of collection_row (λ c d h. before_append (codes "c/") c.name d.name h) cs readable.rising)
+      (rises_map (λ c. c.name) key_of collection_row (λ c d h. before_append (codes "c/") c.name d.name h) cs (rises_map name_of (λ c. c.name) (λ s. s.collection) (λ s z h. h) w.shelves is.plain.rising))
       (rises_filter key_of (begins (codes "c/")) rows rising)
       (λ x i.
       let c = in_map_back collection_row cs x i in
-      in_filter (begins (codes "c/")) rows x (in_from_contains rows x (subst (λ y. Contains rows y) (sym c.2) (all_in (λ c. Contains rows (collection_row c)) cs c.0 readable.kept c.1)))
+      in_filter (begins (codes "c/")) rows x (subst (λ y. IsIn y rows) (sym c.2) (collection_kept c.0 c.1))
       (ap (begins (codes "c/")) c.2))
       (λ x i.
       let h = of_filter (begins (codes "c/")) rows x i in
@@ -269,8 +220,8 @@ module _ (rows : List KeptRow) (w : World) (rising : IsRising rows) (is : plain.
   few_recs : sum_by (λ s. length s.recs) w.shelves ≤ 200000
   few_recs = let e = ap length same_records in omega (arith, e, count_recs w.shelves, within.records)
 
-  few_bytes : sum_by (λ s. sum_by (text_len s.collection) s.recs) w.shelves ≤ 268435456
-  few_bytes = let e = ap (sum_by value_len) same_records in omega (arith, e, count_len w.shelves, within.store)
+  few_bytes : sum_by (λ s. sum_by (row_len s.collection) s.recs) w.shelves ≤ 268435456
+  few_bytes = let e = ap (sum_by (λ row. length row.value)) same_records in omega (arith, e, count_len w.shelves, within.store)
 
   -- ---- the state
 
@@ -304,3 +255,7 @@ module _ (rows : List KeptRow) (w : World) (rising : IsRising rows) (is : plain.
     rising = rises_nil (λ t. t.text);
     few = omega arith;
   }
+
+  -- so its rows open to it
+  pub plain_store : IsStoreOf rows (without_tokens w)
+  plain_store = sound_opens rows (without_tokens w) plain_sound rising (subst (λ l. (x : KeptRow) → Contains rows x ↔ Contains l x) (sym (append-nil (plain.rows_of w))) is.same)

@@ -5,13 +5,10 @@ use Rattle.pocket_types.specs.declared.records.Rec.{Rec}
 use Rattle.pocket_types.specs.declared.world.Shelf.{Shelf}
 use Rattle.pocket_keeper.specs.Plain.{HoldsCollection, HoldsRec, LacksCollection, LacksRec}
 use Rattle.pocket_keeper.specs.declared.rows.KeptRow.{KeptRow}
+use Rattle.pocket_store.specs.Drafts.{with_rec}
 use Rattle.pocket_core.specs.Opening.{IsFirstBadRow}
 use Rattle.pocket_core.specs.declared.opening.StartFault.{StartFault}
 use Rattle.pocket_core.specs.declared.opening.StartFault.TheVariants.{KeeperFault, BadStore, Memory}
-
--- a shelf with one record more at its end
-abbrev pub with_rec : Shelf → Rec → Shelf
-with_rec s r = record s { recs = s.recs ++ r ∷ [] }
 
 -- the row holds this record of the shelf at this place
 pub record HoldsRecAt (shelves : List Shelf) (at : ℕ) (rec : Rec) (row : KeptRow) : Type 0 where

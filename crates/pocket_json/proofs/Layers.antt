@@ -6,7 +6,7 @@ use Rattle.pocket_types.specs.declared.json.Jv.TheFolds.{fold-roll-Jv, fold-roll
 use Rattle.pocket_types.specs.declared.json.Jv.TheOpen as jv
 use Rattle.pocket_types.specs.declared.json.Jv.TheViews.{roll-Jv}
 use Rattle.pocket_types.specs.declared.json.Member.{fold-Member}
-use Rattle.pocket_json.specs.Profile.{rise, rising_step, rising_member, keys_rise, small_step, small_member, numbers_small, greatest, levels_step, levels_member, levels}
+use Rattle.pocket_types.specs.Profile.{rise, rising_step, rising_member, keys_rise, small_step, small_member, numbers_small, greatest, levels_step, levels_member, levels}
 use Rattle.pocket_types.specs.Maps.{member_of, map_jv}
 
 abbrev pub Entries : Type 0

@@ -10,7 +10,7 @@ use Rattle.fast_float.proofs.Writing.{scan-text_of}
 use Rattle.json.specs.Print.{IsNumber}
 use Rattle.json.proofs.Printed.Decimals.{IsNumber-signed_decimal}
 use Rattle.serde_json.specs.Read.{is_integer}
-use Rattle.pocket_json.specs.Profile.{size_of}
+use Rattle.pocket_types.specs.Profile.{size_of}
 use Rattle.pocket_json.specs.Reading.{from_zero, below_zero, whole_of}
 
 no_minus : (ds rest : List ℕ) → AllDigits 10 ds → 0 < length ds → get_or (ds ++ rest) 0 0 ≡ 45 → ⊥

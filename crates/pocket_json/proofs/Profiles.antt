@@ -20,7 +20,7 @@ use Rattle.pocket_types.specs.declared.json.Jv.{Jv}
 use Rattle.pocket_types.specs.declared.json.Jv.TheOpen as jv
 use Rattle.pocket_types.specs.declared.json.Jv.TheViews.{roll-Jv}
 use Rattle.pocket_types.specs.declared.json.Jv.TheFolds.{fold-roll-Jv}
-use Rattle.pocket_json.specs.Profile.{rise, rise_from, rising_step, rising_member, keys_rise, size_of, small_step, small_member, numbers_small, greatest, levels_step, levels_member, levels, IsProfiled}
+use Rattle.pocket_types.specs.Profile.{rise, rise_from, rising_step, rising_member, keys_rise, size_of, small_step, small_member, numbers_small, greatest, levels_step, levels_member, levels, IsProfiled}
 use Rattle.pocket_types.specs.Maps.{map_jv, put}
 use Rattle.pocket_json.specs.Reading.{from_zero, below_zero, whole_of, tree_of, trees_of, entries_of, document, read}
 use Rattle.pocket_json.proofs.Layers.{Entries, keys, rising_list, small_list, levels_list, rising_map, small_map, levels_map}

@@ -20,7 +20,7 @@ use Rattle.pocket_types.specs.declared.json.Jv.TheOpen.{Jv-F, Member-F}
 use Rattle.pocket_types.specs.declared.json.Jv.TheViews.{roll-Jv, roll-Member}
 use Rattle.pocket_types.specs.declared.json.Member.{Member, fold-Member}
 use Rattle.pocket_types.proofs.OrderLemmas.{before_from, before_trans, after_from_before}
-use Rattle.pocket_json.specs.Profile.{rise, rise_from, keys_rise, numbers_small, greatest, levels, small_step, small_member, levels_step, levels_member, size_of, IsProfiled}
+use Rattle.pocket_types.specs.Profile.{rise, rise_from, keys_rise, numbers_small, greatest, levels, small_step, small_member, levels_step, levels_member, size_of, IsProfiled}
 use Rattle.pocket_types.specs.Maps.{member_of, map_jv, put}
 use Rattle.pocket_json.specs.Reading.{tree_of, trees_of, entries_of, document, read}
 use Rattle.pocket_json.proofs.Layers.{Entries, keys, rising_list, small_list, levels_list, rising_map, small_map, levels_map}

@@ -1,2 +1,2 @@
-pub mod Profile
 pub mod Reading
+pub use Rattle.pocket_types.specs.Profile

@@ -8,6 +8,7 @@ use Rattle.pocket_types.specs.declared.json.Jv.{Jv}
 use Rattle.pocket_types.specs.declared.json.Jv.TheOpen as jv
 use Rattle.pocket_types.specs.declared.json.Jv.TheViews.{roll-Jv}
 use Rattle.pocket_types.specs.Maps.{map_jv, put}
+use Rattle.pocket_types.specs.Profile.{max_levels}
 
 -- ---- numbers
 
@@ -45,9 +46,6 @@ abbrev mutual
   entries_of (json.member key j ms) found = option_and_then (λ tree. entries_of ms (put key tree found)) (tree_of j)
 
 -- ---- bytes
-
-abbrev pub max_levels : ℕ
-max_levels = 32
 
 -- the one value of the grammar that a text is
 abbrev pub document : List ℕ → Option json.Json

@@ -2,7 +2,7 @@ ghost use Rattle.std.specs.Prelude.{◌≡◌, Some, None, Err, IfOk};
 ghost use Rattle.json.specs.Value.{value_view};
 ghost use Rattle.pocket_types.specs.Json.{printed};
 ghost use Rattle.pocket_types.specs.declared.json.Jv.{Jv};
-ghost use Rattle.pocket_json.specs.Profile.{IsProfiled};
+ghost use Rattle.pocket_types.specs.Profile.{IsProfiled};
 ghost use Rattle.pocket_json.specs.Reading.{document, read as read_of, IsJson};
 
 use crate::convert::tree;

@@ -13,7 +13,8 @@ use Rattle.pocket_types.specs.Names.{is_name}
 use Rattle.pocket_types.specs.Json.{printed}
 use Rattle.pocket_keeper.specs.declared.rows.KeptRow.{KeptRow}
 use Rattle.pocket_keeper.specs.Parts.{HasNoByte, rule_of, plain_field, plain_collection, plain_text, middle_text, back_text}
-use Rattle.pocket_keeper.specs.Plain.{IsPlainRule, IsPlainField, HasPlainField, IsPlainCollection, IsFieldName, is_reserved, LacksCollection, HoldsCollection}
+use Rattle.pocket_keeper.specs.Plain.{IsPlainRule, IsPlainField, HasPlainField, IsPlainCollection, LacksCollection, HoldsCollection}
+use Rattle.pocket_types.specs.Sound.{IsFieldName, is_reserved}
 use Rattle.pocket_ops.specs.Trees.{collection_jv}
 use Rattle.pocket_keeper.specs.Texts.{collection_row}
 use Rattle.pocket_keeper.proofs.Printing.{name_lacks_quote}

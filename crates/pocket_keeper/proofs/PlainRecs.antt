@@ -23,7 +23,8 @@ use Rattle.pocket_ops.specs.Trees.{put_cells, text_jv, rec_members}
 use Rattle.pocket_keeper.specs.Dates.{plain_moment}
 use Rattle.pocket_keeper.proofs.PlainDates.{date_text_of_plain}
 use Rattle.pocket_keeper.specs.Parts.{before_field, behind_field, to_created, to_updated, plain_field, plain_rec, plain_rec_text}
-use Rattle.pocket_keeper.specs.Plain.{IsPlainField, HasPlainCell, IsPlainRec, LacksRec, is_reserved}
+use Rattle.pocket_keeper.specs.Plain.{IsPlainField, HasPlainCell, IsPlainRec, LacksRec}
+use Rattle.pocket_types.specs.Sound.{is_reserved}
 use Rattle.pocket_keeper.specs.Texts.{rec_row, rec_key}
 use Rattle.pocket_keeper.proofs.PlainForms.{field_form}
 use Rattle.pocket_ops.specs.Printing.{pair_text, printed_text}

@@ -5,3 +5,4 @@ pub mod Places
 pub mod Plain
 pub mod Rows
 pub mod Texts
+pub use Rattle.pocket_types.specs.Sound

@@ -1,6 +1,5 @@
 -- The collections and records that rows may hold so far.
-use Rattle.std.specs.Prelude.{◌≡◌, ◌≢◌, ℕ, ◌||◌, List, [], ◌∷◌, codes, Bool, false, IsTrue, IsUtf8}
-use Rattle.std.specs.Str.{bytes_eq}
+use Rattle.std.specs.Prelude.{◌≡◌, ◌≢◌, List, [], ◌∷◌, false, IsTrue, IsUtf8}
 use Rattle.pocket_types.specs.declared.records.Cell.{Cell}
 use Rattle.pocket_types.specs.declared.records.Cell.TheVariants as cell
 use Rattle.pocket_types.specs.declared.records.Kind.TheVariants as kind
@@ -10,6 +9,7 @@ use Rattle.pocket_types.specs.declared.records.Rule.TheVariants as rule
 use Rattle.pocket_types.specs.declared.records.Collection.{Collection}
 use Rattle.pocket_types.specs.declared.records.Rec.{Rec}
 use Rattle.pocket_types.specs.Names.{is_name, is_id}
+use Rattle.pocket_types.specs.Sound.{is_reserved}
 use Rattle.pocket_keeper.specs.declared.rows.KeptRow.{KeptRow}
 use Rattle.pocket_keeper.specs.Dates.{plain_moment}
 use Rattle.pocket_keeper.specs.Texts.{collection_row, rec_row}
@@ -19,15 +19,6 @@ abbrev pub IsPlainRule : Rule → Type 0
 IsPlainRule rule.Locked = Unit {0}
 IsPlainRule rule.Free = Unit {0}
 IsPlainRule (rule.Filter t) = ⊥
-
--- the names that no field may have
-abbrev pub is_reserved : List ℕ → Bool
-is_reserved name =
-    bytes_eq name (codes "id") || bytes_eq name (codes "created") || bytes_eq name (codes "updated") || bytes_eq name (codes "collectionName") || bytes_eq name (codes "expand")
-
--- a name that a field may have
-abbrev pub IsFieldName : List ℕ → Type 0
-IsFieldName name = IsTrue (is_name name) × (is_reserved name ≡ false)
 
 -- a text field with the options that a field has where none is given
 pub record IsPlainField (f : Field) : Type 0 where

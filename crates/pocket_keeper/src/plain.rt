@@ -3,7 +3,8 @@ ghost use Rattle.std.specs.Prelude.{◌≡◌, ◌≢◌, ℕ, List, Bool, false
 ghost use Rattle.pocket_types.specs.Names.{is_name, is_id};
 ghost use Rattle.pocket_types.specs.Json.{escape_byte};
 ghost use Rattle.pocket_keeper.specs.Parts.{HasNoByte, rule_of, plain_text, plain_field, plain_collection, plain_rec, plain_rec_text, before_field, behind_field, to_created, to_updated};
-ghost use Rattle.pocket_keeper.specs.Plain.{IsPlainCollection, IsPlainField, HasPlainField, IsPlainRec, IsFieldName, is_reserved, LacksCollection, HoldsCollection, LacksRec, HoldsRec};
+ghost use Rattle.pocket_keeper.specs.Plain.{IsPlainCollection, IsPlainField, HasPlainField, IsPlainRec, LacksCollection, HoldsCollection, LacksRec, HoldsRec};
+ghost use Rattle.pocket_types.specs.Sound.{IsFieldName, is_reserved};
 ghost use Rattle.pocket_keeper.specs.Texts.{rec_key, rec_row};
 
 use crate::dates::plain_moment;

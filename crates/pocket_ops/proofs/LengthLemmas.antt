@@ -1,15 +1,19 @@
 -- The lengths of texts, piece by piece.
-use Rattle.std.proofs.Common.{◌≡◌, ◌≢◌, ℕ, zero, suc, ◌+◌, ◌<◌, ◌≤◌, min, Bool, true, false, not, ◌&&◌, if◌then◌else◌, nat_le, ℤ, Option, None, List, [], ◌∷◌, ◌++◌, length, get_or, take, drop, map, flat_map, codes, ◌||◌, refl, sym, ap, ◌∙◌, append-nil, length-append, arith}
+use Rattle.std.proofs.Common.{◌≡◌, ◌≢◌, ℕ, zero, suc, ◌+◌, ◌<◌, ◌≤◌, min, Bool, true, false, not, ◌&&◌, if◌then◌else◌, nat_le, ℤ, Option, None, List, [], ◌∷◌, ◌++◌, length, get_or, take, drop, map, flat_map, codes, ◌||◌, All, IsTrue, refl, sym, ap, ◌∙◌, subst, append-nil, length-append, arith}
+use Rattle.std.specs.Prelude.{MatchBool}
 use Rattle.std.specs.declared.cmp.Ordering.{Ordering}
 use Rattle.std.specs.declared.cmp.Ordering.TheVariants.{Less, Equal, Greater}
 use Rattle.std.specs.Ordering.{match_ordering, nat_cmp}
 use Rattle.std.specs.Cmp.Lexicographic.{slice_cmp}
-use Rattle.std.specs.List.{join_with_byte, list_all, list_any}
+use Rattle.std.specs.List.{join_with_byte, list_all, list_any, AllPass}
 use Rattle.std.specs.Str.{bytes_eq}
 use Rattle.std.proofs.lemmas.Bool.{false≢true}
 use Rattle.std.proofs.lemmas.Slice.Eq.{bytes_eq-Decides}
 use Rattle.std.proofs.lemmas.Grind.{flat_map-append}
 use Rattle.std.proofs.lemmas.List.{take_all, take_more, drop_more}
+use Rattle.std.proofs.lemmas.List.Elements.{All-cons, All-head, All-nil, All-tail, All-weaker}
+use Rattle.std.proofs.lemmas.List.Kept.{AllPairs-cons}
+use Rattle.std.proofs.lemmas.List.Sums.{AllPass-from_list_all, list_all-from_AllPass}
 use Rattle.std.proofs.lemmas.Bool.Decides.{nat_tests}
 use Rattle.pocket_types.proofs.OrderLemmas.{same_from_equal}
 use Rattle.pocket_types.proofs.PrintLemmas.{join_more, member_text_is}
@@ -19,9 +23,10 @@ use Rattle.pocket_types.specs.declared.records.Collection.{Collection}
 use Rattle.pocket_types.specs.declared.records.Field.{Field}
 use Rattle.pocket_types.specs.declared.records.Rec.{Rec}
 use Rattle.pocket_types.specs.declared.json.Member.{Member}
+use Rattle.pocket_types.specs.Sound.{is_reserved, IsSoundCollection, IsSoundField}
 use Rattle.pocket_types.specs.Json.{printed, printed_member, quoted, comma_before}
 use Rattle.pocket_ops.specs.Dates.{date_text}
-use Rattle.pocket_ops.specs.Lengths.{held, row_len, are_apart, is_undated, has_own_names}
+use Rattle.pocket_ops.specs.Lengths.{held, row_len, is_undated, AreApart, HasOwnNames}
 use Rattle.pocket_ops.specs.Printing.{pair_text, printed_text, printed_list, printed_map}
 use Rattle.pocket_types.specs.Maps.{put, map_jv}
 use Rattle.pocket_ops.specs.Trees.{put_cells, text_jv, list_jv, one_jv, items_jv, date_jv, cell_jv, date_members, rec_members}
@@ -118,10 +123,6 @@ shown : {X : Type 0} (hidden : Bool) (a b : X) → (if hidden && not true then a
 shown true a b = refl
 shown false a b = refl
 
-or_parts : (a b : Bool) → (a || b) ≡ false → (a ≡ false) × (b ≡ false)
-or_parts true b e = absurd cc
-or_parts false b e = (refl, e)
-
 and_parts : (a b : Bool) → (a && b) ≡ true → (a ≡ true) × (b ≡ true)
 and_parts true b e = (refl, e)
 and_parts false b e = absurd cc
@@ -129,6 +130,10 @@ and_parts false b e = absurd cc
 not_true : (a : Bool) → not a ≡ true → a ≡ false
 not_true true e = absurd cc
 not_true false e = refl
+
+or_parts : (a b : Bool) → (a || b) ≡ false → (a ≡ false) × (b ≡ false)
+or_parts true b e = absurd cc
+or_parts false b e = (refl, e)
 
 apart_from : (a b : List ℕ) → bytes_eq a b ≡ false → a ≢ b
 apart_from a b e same = absurd (false≢true (sym e ∙ (bytes_eq-Decides a b).1 same))
@@ -138,36 +143,40 @@ abbrev AllLack : List Field → List (List ℕ × Jv) → Type 0
 AllLack [] ms = Unit {0}
 AllLack (f ∷ fs) ms = Lacks f.name ms × AllLack fs ms
 
-all_lack_put : (name : List ℕ) (v : Jv) (ms : List (List ℕ × Jv)) (fs : List Field) → list_any (λ g. bytes_eq g.name name) fs ≡ false → AllLack fs ms → AllLack fs (put name v ms)
-all_lack_put name v ms [] e lack = tt
-all_lack_put name v ms (g ∷ gs) e lack =
-    let parts = or_parts (bytes_eq g.name name) (list_any (λ g. bytes_eq g.name name) gs) e in
-    (lacks_put g.name name v ms (apart_from g.name name parts.0) lack.0, all_lack_put name v ms gs parts.1 lack.1)
+all_lack_put : (name : List ℕ) (v : Jv) (ms : List (List ℕ × Jv)) (fs : List Field) → All (λ g. name ≢ g.name) fs → AllLack fs ms → AllLack fs (put name v ms)
+all_lack_put name v ms [] apart lack = tt
+all_lack_put name v ms (g ∷ gs) apart lack =
+    (lacks_put g.name name v ms (λ e. All-head (λ g. name ≢ g.name) g gs apart (sym e)) lack.0, all_lack_put name v ms gs (All-tail (λ g. name ≢ g.name) g gs apart) lack.1)
 
-all_lack_dates : (r : Rec) (fs : List Field) → list_all is_undated fs ≡ true → AllLack fs (date_members r)
+all_lack_dates : (r : Rec) (fs : List Field) → AllPass is_undated fs → AllLack fs (date_members r)
 all_lack_dates r [] e = tt
 all_lack_dates r (f ∷ fs) e =
-    let parts = and_parts (is_undated f) (list_all is_undated fs) e in
-    let own = and_parts (not (bytes_eq f.name (codes "created"))) (not (bytes_eq f.name (codes "updated"))) parts.0 in
-    ((apart_from f.name (codes "created") (not_true _ own.0), (apart_from f.name (codes "updated") (not_true _ own.1), tt)), all_lack_dates r fs parts.1)
+    let own = and_parts (not (bytes_eq f.name (codes "created"))) (not (bytes_eq f.name (codes "updated"))) (All-head (λ f. IsTrue (is_undated f)) f fs e) in (
+      (apart_from f.name (codes "created") (not_true _ own.0), (apart_from f.name (codes "updated") (not_true _ own.1), tt)),
+      all_lack_dates r fs (All-tail (λ f. IsTrue (is_undated f)) f fs e),
+    )
 
-pub put_cells_len : (fs : List Field) (cells : List Cell) (ms : List (List ℕ × Jv)) → are_apart fs ≡ true → AllLack fs ms
+apart_first : (f : Field) (fs : List Field) → AreApart (f ∷ fs) → All (λ g. f.name ≢ g.name) fs
+apart_first f fs h k d within = h zero (suc k) d (omega arith) (omega arith)
+
+apart_rest : (f : Field) (fs : List Field) → AreApart (f ∷ fs) → AreApart fs
+apart_rest f fs h i j d before within = h (suc i) (suc j) d (omega arith) (omega arith)
+
+pub put_cells_len : (fs : List Field) (cells : List Cell) (ms : List (List ℕ × Jv)) → AreApart fs → AllLack fs ms
     → pairs_len (put_cells true fs cells ms) ≡ pairs_len ms + cells_len fs cells
 put_cells_len [] cells ms apart lack = omega arith
 put_cells_len (f ∷ fs) [] ms apart lack = omega arith
 put_cells_len (f ∷ fs) (cell ∷ cells) ms apart lack =
     let v = cell_jv f.kind cell in
-    let parts = and_parts (not (list_any (λ g. bytes_eq g.name f.name) fs)) (are_apart fs) apart in
-    let rest = put_cells_len fs cells (put f.name v ms) parts.1 (all_lack_put f.name v ms fs (not_true _ parts.0) lack.1) in
+    let rest = put_cells_len fs cells (put f.name v ms) (apart_rest f fs apart) (all_lack_put f.name v ms fs (apart_first f fs apart) lack.1) in
     let here = put_len f.name v ms lack.0 in
     ap (λ xs. pairs_len (put_cells true fs cells xs)) (shown f.hidden ms (put f.name v ms)) ∙ omega (arith, rest, here)
 
 -- the length of a record's row text by its parts
-pub row_len-is : (c : Collection) (r : Rec) → has_own_names c ≡ true → row_len c r ≡ length (printed (map_jv (date_members r))) + cells_len c.fields r.cells
+pub row_len-is : (c : Collection) (r : Rec) → HasOwnNames c → row_len c r ≡ length (printed (map_jv (date_members r))) + cells_len c.fields r.cells
 row_len-is c r own =
     let dates = date_members r in
-    let parts = and_parts (are_apart c.fields) (list_all is_undated c.fields) own in
-    let whole = put_cells_len c.fields r.cells dates parts.0 (all_lack_dates r c.fields parts.1) in
+    let whole = put_cells_len c.fields r.cells dates own.apart (all_lack_dates r c.fields own.undated) in
     let nonempty : 0 < pairs_len dates = omega arith in
     omega (arith, whole, map_len dates nonempty, map_len (rec_members true c r) (omega (arith, whole, nonempty)))
 
@@ -242,7 +251,7 @@ row_len-more fs cells n m f cell len next item more whole em h k e d el ei emore
     let grown = sym (ap (λ x. held (len + x)) (cells_len_more fs cells n f cell h k e d)) ∙ el in
     (omega (arith, en), ap (λ i. held (next + cells_len (drop i fs) (drop i cells))) em ∙ len_more len next item more pair rest whole grown ei emore en)
 
-pub row_len-end : (c : Collection) (r : Rec) (n len : ℕ) → has_own_names c ≡ true → n ≡ min (length c.fields) (length r.cells) → held len ≡ len
+pub row_len-end : (c : Collection) (r : Rec) (n len : ℕ) → HasOwnNames c → n ≡ min (length c.fields) (length r.cells) → held len ≡ len
     → held (len + cells_len (drop n c.fields) (drop n r.cells)) ≡ held (length (printed (map_jv (date_members r))) + cells_len c.fields r.cells) → len ≡ held (row_len c r)
 row_len-end c r n len own en eh el =
     let none = cells_len-end n c.fields r.cells en in
@@ -251,7 +260,48 @@ row_len-end c r n len own en eh el =
 
 -- ---- fields' names
 
-pub are_apart-more : (f : Field) (rest fs : List Field) (name : List ℕ) (named apart : Bool) → fs ≡ f ∷ rest → name ≡ f.name → named ≡ list_any (λ g. bytes_eq g.name name) rest → named ≡ false → apart ≡ are_apart rest → apart ≡ are_apart fs
-are_apart-more f rest fs name named apart es en ed none ea =
-    let unnamed = sym (ed ∙ ap (λ n. list_any (λ g. bytes_eq g.name n) rest) en) ∙ none in
-    ea ∙ sym (ap are_apart es ∙ ap (λ b. not b && are_apart rest) unnamed)
+-- no later field has the name
+none_named : (name : List ℕ) (fs : List Field) → list_any (λ g. bytes_eq g.name name) fs ≡ false → All (λ g. name ≢ g.name) fs
+none_named name [] e = All-nil (λ g. name ≢ g.name)
+none_named name (g ∷ gs) e =
+    let parts = or_parts (bytes_eq g.name name) (list_any (λ g. bytes_eq g.name name) gs) e in
+    All-cons (λ g. name ≢ g.name) g gs (λ same. apart_from g.name name parts.0 (sym same)) (none_named name gs parts.1)
+
+-- one of them has it
+one_named : (name : List ℕ) (fs : List Field) → list_any (λ g. bytes_eq g.name name) fs ≡ true → ¬ All (λ g. name ≢ g.name) fs
+one_named name [] e none = cc
+one_named name (g ∷ gs) e none = by (bytes_eq g.name name) refl e (λ later. one_named name gs later (All-tail (λ g. name ≢ g.name) g gs none))
+  where
+    by : (b : Bool) → bytes_eq g.name name ≡ b → (b || list_any (λ g. bytes_eq g.name name) gs) ≡ true → (list_any (λ g. bytes_eq g.name name) gs ≡ true → ⊥) → ⊥
+    by true is e rest = All-head (λ g. name ≢ g.name) g gs none (sym ((bytes_eq-Decides g.name name).0 is))
+    by false is e rest = rest e
+
+pub apart_more : (f : Field) (rest fs : List Field) (name : List ℕ) (named apart : Bool) → fs ≡ f ∷ rest → name ≡ f.name → named ≡ list_any (λ g. bytes_eq g.name name) rest → named ≡ false
+    → MatchBool apart (AreApart rest) (¬ AreApart rest) → MatchBool apart (AreApart fs) (¬ AreApart fs)
+apart_more f rest fs name named true es en ed none h =
+    let first = none_named f.name rest (sym (ap (λ n. list_any (λ g. bytes_eq g.name n) rest) en) ∙ sym ed ∙ none) in
+    subst AreApart (sym es) (AllPairs-cons (λ f g. f.name ≢ g.name) f rest first h)
+apart_more f rest fs name named false es en ed none h = λ all. h (apart_rest f rest (subst AreApart es all))
+
+pub not_apart : (f : Field) (rest fs : List Field) (name : List ℕ) (named : Bool) → fs ≡ f ∷ rest → name ≡ f.name → named ≡ list_any (λ g. bytes_eq g.name name) rest → named ≡ true
+    → MatchBool (not named) (AreApart fs) (¬ AreApart fs)
+not_apart f rest fs name named es en ed one =
+    subst (λ b. MatchBool (not b) (AreApart fs) (¬ AreApart fs)) (sym one)
+    (λ all. one_named f.name rest (sym (ap (λ n. list_any (λ g. bytes_eq g.name n) rest) en) ∙ sym ed ∙ one) (apart_first f rest (subst AreApart es all)))
+
+pub own_names_by : (c : Collection) (apart undated : Bool) → apart ≡ true → MatchBool apart (AreApart c.fields) (¬ AreApart c.fields) → undated ≡ list_all is_undated c.fields
+    → MatchBool undated (HasOwnNames c) (¬ HasOwnNames c)
+own_names_by c false undated t h e = cc
+own_names_by c true true t h e = record { apart = h; undated = AllPass-from_list_all is_undated c.fields (sym e) }
+own_names_by c true false t h e = λ own. false≢true (e ∙ list_all-from_AllPass is_undated c.fields own.undated)
+
+-- ---- a sound collection's
+
+not_date : (name : List ℕ) → is_reserved name ≡ false → (not (bytes_eq name (codes "created")) && not (bytes_eq name (codes "updated"))) ≡ true
+not_date name h = grind (arith, nat_tests)
+
+pub sound_own_names : (c : Collection) → IsSoundCollection c → HasOwnNames c
+sound_own_names c sound = record {
+  apart = sound.differ;
+  undated = All-weaker IsSoundField (λ f. IsTrue (is_undated f)) (λ f s. not_date f.name s.name.1) c.fields sound.fields;
+}

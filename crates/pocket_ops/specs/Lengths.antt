@@ -1,6 +1,6 @@
 -- The lengths of texts, held at the end of 64 bits.
-use Rattle.std.specs.Prelude.{ℕ, ◌-◌, ◌^◌, min, Bool, true, not, ◌&&◌, List, [], ◌∷◌, length, codes}
-use Rattle.std.specs.List.{list_all, list_any}
+use Rattle.std.specs.Prelude.{◌≢◌, ℕ, ◌-◌, ◌^◌, min, Bool, not, ◌&&◌, List, length, codes, AllPairs}
+use Rattle.std.specs.List.{AllPass}
 use Rattle.std.specs.Str.{bytes_eq}
 use Rattle.pocket_types.specs.Json.{printed}
 use Rattle.pocket_types.specs.declared.records.Collection.{Collection}
@@ -16,15 +16,15 @@ held n = min n (2 ^ 64 - 1)
 abbrev pub row_len : Collection → Rec → ℕ
 row_len c r = length (printed (kept_jv c r))
 
--- whether no two fields have one name
-abbrev pub are_apart : List Field → Bool
-are_apart [] = true
-are_apart (f ∷ fs) = not (list_any (λ g. bytes_eq g.name f.name) fs) && are_apart fs
-
 -- whether a field's name is none of a record's dates
 abbrev pub is_undated : Field → Bool
 is_undated f = not (bytes_eq f.name (codes "created")) && not (bytes_eq f.name (codes "updated"))
 
--- whether no two members of a record's row have one name
-abbrev pub has_own_names : Collection → Bool
-has_own_names c = are_apart c.fields && list_all is_undated c.fields
+-- no two fields have one name
+abbrev pub AreApart : List Field → Type 0
+AreApart fs = AllPairs (λ f g. f.name ≢ g.name) fs
+
+-- no two members of a record's row have one name
+pub record HasOwnNames (c : Collection) : Type 0 where
+  pub apart : AreApart c.fields
+  pub undated : AllPass is_undated c.fields

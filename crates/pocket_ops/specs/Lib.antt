@@ -9,3 +9,4 @@ pub mod Macros
 pub mod Printing
 pub mod Searching
 pub mod Trees
+pub use Rattle.pocket_types.specs.Sound

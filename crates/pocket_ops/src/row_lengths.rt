@@ -1,10 +1,10 @@
 // The length of a record's row text.
-ghost use Rattle.std.specs.Prelude.{◌≡◌, length, IsTrue};
+ghost use Rattle.std.specs.Prelude.{◌≡◌, length, MatchBool};
 ghost use Rattle.std.specs.List.{list_all, list_any};
 ghost use Rattle.std.specs.Str.{bytes_eq};
 ghost use Rattle.pocket_types.specs.Json.{printed};
 ghost use Rattle.pocket_ops.specs.Dates.{date_text};
-ghost use Rattle.pocket_ops.specs.Lengths.{held, row_len, are_apart, is_undated, has_own_names};
+ghost use Rattle.pocket_ops.specs.Lengths.{held, row_len, is_undated, AreApart, HasOwnNames};
 ghost use Rattle.pocket_types.specs.Maps.{map_jv};
 ghost use Rattle.pocket_ops.specs.Trees.{text_jv, date_jv, items_jv, cell_jv, date_members};
 
@@ -80,7 +80,7 @@ fn cell_len(kind: &Kind, cell: &Cell) -> u64
 
 /// Whether no field's name is that of a later field.
 fn are_apart(fields: &[Field]) -> bool
-    ensures { result ≡ are_apart fields.now }
+    ensures { MatchBool result (AreApart fields.now) (¬ AreApart fields.now) }
 {
     let Some((first, rest)) = fields.split_first() else {
         return true;
@@ -111,9 +111,9 @@ fn are_undated(fields: &[Field]) -> bool
 }
 
 /// Whether no two members of a record's row have one name: a collection's fields have different names, and none is
-/// `created` or `updated`.
+/// `created` or `updated`. So it is with every sound collection.
 pub fn has_own_names(collection: &Collection) -> bool
-    ensures { result ≡ has_own_names collection.now }
+    ensures { MatchBool result (HasOwnNames collection.now) (¬ HasOwnNames collection.now) }
 {
     let fields = collection.fields.as_slice();
     let apart = are_apart(fields);
@@ -123,7 +123,7 @@ pub fn has_own_names(collection: &Collection) -> bool
 
 /// The number of bytes of a record's row text, held at 2^64 - 1. The text isn't made.
 pub fn row_len(collection: &Collection, rec: &Rec) -> u64
-    requires { IsTrue (has_own_names collection.now) }
+    requires { HasOwnNames collection.now }
     ensures { result ≡ held (row_len collection.now rec.now) }
 {
     let fields = collection.fields.as_slice();

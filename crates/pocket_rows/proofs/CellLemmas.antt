@@ -12,14 +12,14 @@ use Rattle.pocket_types.specs.declared.records.Cell.{Cell}
 use Rattle.pocket_types.specs.declared.records.Cell.TheVariants as cell
 use Rattle.pocket_types.specs.declared.records.Kind.TheVariants as kind
 use Rattle.pocket_types.specs.Names.{IsMoment, is_id}
-use Rattle.pocket_json.specs.Profile.{size_of, small_step, small_member}
+use Rattle.pocket_types.specs.Profile.{size_of, small_step, small_member}
 use Rattle.pocket_ops.specs.DateReading.{date_of}
 use Rattle.pocket_ops.specs.Dates.{date_text}
 use Rattle.pocket_ops.specs.Trees.{text_jv, num_jv, flag_jv, list_jv, one_jv, items_jv, date_jv, cell_jv}
 use Rattle.pocket_rows.proofs.MomentLemmas.{date_text-read, date_text-filled}
 use Rattle.pocket_rows.proofs.TreeForms.{text_once, num_once, flag_once, list_once, texts_once}
 use Rattle.pocket_rows.specs.Cells.{AreFilled, AreNoItems, MayBeItems, IsNoDate, MayBeDate, IsNoCell, MayBeCell}
-use Rattle.pocket_rows.specs.Sound.{IsSmall, IsCellTree, IsItem, Differ, Fits}
+use Rattle.pocket_types.specs.Sound.{IsSmall, IsCellTree, IsItem, Differ, Fits}
 
 -- ---- texts
 

@@ -11,7 +11,7 @@ use Rattle.pocket_types.specs.declared.json.Member.{Member}
 use Rattle.pocket_types.specs.declared.records.Collection.{Collection}
 use Rattle.pocket_types.specs.declared.records.Rule.{Rule}
 use Rattle.pocket_types.specs.declared.records.Rule.TheVariants as rule
-use Rattle.pocket_json.specs.Profile.{rising_step, rising_member, small_step, small_member, levels_step, levels_member, IsProfiled}
+use Rattle.pocket_types.specs.Profile.{rising_step, rising_member, small_step, small_member, levels_step, levels_member, IsProfiled}
 use Rattle.pocket_json.specs.Reading.{read}
 use Rattle.pocket_json.proofs.Profiles.{Fine, fine_map}
 use Rattle.pocket_json.proofs.RoundTrips.{read_printed}
@@ -27,7 +27,7 @@ use Rattle.pocket_rows.specs.Cells.{value_under, IsNoMap, MayBeMap}
 use Rattle.pocket_rows.specs.CollectionReading.{AreFields}
 use Rattle.pocket_rows.specs.CollectionRows.{AreWritten, HasNoRules, HasRules, ReadsFieldsUnder, rules_of, IsCollectionUnder, HasNoCollection, MayHaveCollection, MayKeepCollection}
 use Rattle.pocket_rows.specs.RowReading.{KeepsNoCollection}
-use Rattle.pocket_rows.specs.Sound.{IsWritten, IsSoundCollection}
+use Rattle.pocket_types.specs.Sound.{IsWritten, IsSoundCollection}
 use Rattle.pocket_rows.specs.declared.rules.Rules.{Rules}
 
 -- ---- what is printed the same is the same

@@ -12,7 +12,7 @@ use Rattle.std.proofs.lemmas.List.Elements.{Contains-append_left, Contains-push,
 use Rattle.std.proofs.lemmas.List.Quantifiers.{all_pairs_push}
 use Rattle.std.proofs.lemmas.Map.Text.{is_eq-slice_cmp}
 use Rattle.pocket_rows.proofs.MemberLemmas.{same_text, text_itself}
-use Rattle.pocket_rows.specs.Sound.{Differ}
+use Rattle.pocket_types.specs.Sound.{Differ}
 
 abbrev pub by_text : Bor (List ℕ) → Bor (List ℕ) → Ordering
 by_text a b = slice_cmp nat_cmp a.now b.now

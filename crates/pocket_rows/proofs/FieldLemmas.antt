@@ -18,14 +18,13 @@ use Rattle.pocket_types.specs.declared.records.Kind.TheVariants as kind
 use Rattle.pocket_ops.specs.Dates.{date_text}
 use Rattle.pocket_ops.specs.Cells.{texts_jv}
 use Rattle.pocket_ops.specs.Trees.{text_jv, num_jv, flag_jv, list_jv, date_jv, bound_jv, field_members, field_jv}
-use Rattle.pocket_keeper.specs.Plain.{IsFieldName, is_reserved}
+use Rattle.pocket_types.specs.Sound.{IsFieldName, is_reserved, IsSoundKind, IsSoundField, may_be_unique, Differ}
 use Rattle.pocket_rows.proofs.EntryLemmas.{entry_among, among_is}
 use Rattle.pocket_rows.proofs.MemberLemmas.{Entries}
 use Rattle.pocket_rows.proofs.MomentLemmas.{date_text-read, date_text-filled}
 use Rattle.pocket_rows.proofs.TreeForms.{list_once}
 use Rattle.pocket_rows.specs.CollectionReading.{AreFields}
 use Rattle.pocket_rows.specs.FieldReading.{text_in, flag_in, count_in, bound_in, list_in, members_in, may_be_date, utf8_of, text_read, read_all, text_at, flag_at, count_at, bound_at, date_at, texts_at, name_of, name_at, field_name_of, field_name_at, text_kind, number_kind, date_kind, json_kind, select_kind, relation_kind, kind_named, kind_at, unique_at, field_at, field_read}
-use Rattle.pocket_rows.specs.Sound.{IsSoundKind, IsSoundField, may_be_unique, Differ}
 
 -- ---- texts
 

@@ -14,14 +14,14 @@ use Rattle.pocket_types.specs.declared.json.Member.{Member}
 use Rattle.pocket_types.specs.declared.records.Field.{Field}
 use Rattle.pocket_types.specs.declared.records.Kind.{Kind}
 use Rattle.pocket_types.specs.declared.records.Kind.TheVariants as kind
-use Rattle.pocket_json.specs.Profile.{keys_rise, numbers_small, levels, greatest, IsProfiled}
+use Rattle.pocket_types.specs.Profile.{keys_rise, numbers_small, levels, greatest, IsProfiled}
 use Rattle.pocket_json.proofs.Layers.{rising_list, small_list, levels_list}
 use Rattle.pocket_json.proofs.Profiles.{and_parts}
 use Rattle.pocket_ops.specs.DateReading.{date_of}
 use Rattle.pocket_ops.specs.Dates.{IsDateOf}
 use Rattle.pocket_ops.proofs.ReadDates.{forms}
 use Rattle.pocket_ops.specs.Trees.{list_jv, field_jv}
-use Rattle.pocket_keeper.specs.Plain.{IsFieldName, is_reserved}
+use Rattle.pocket_types.specs.Sound.{IsFieldName, is_reserved, IsSmall, IsCellTree, IsSoundKind, IsSoundField, may_be_unique}
 use Rattle.pocket_rows.proofs.CellLemmas.{small_number}
 use Rattle.pocket_rows.proofs.FieldLemmas.{fields_back}
 use Rattle.pocket_rows.proofs.RecLemmas.{map_shallow}
@@ -29,7 +29,6 @@ use Rattle.pocket_rows.proofs.TreeForms.{list_once}
 use Rattle.pocket_rows.specs.Cells.{AreShallow, value_under}
 use Rattle.pocket_rows.specs.CollectionReading.{ReadsFields}
 use Rattle.pocket_rows.specs.FieldReading.{text_in, count_in, bound_in, list_in, members_in, may_be_date, utf8_of, text_read, read_all, text_at, flag_at, count_at, bound_at, date_at, texts_at, name_of, name_at, field_name_of, field_name_at, text_kind, number_kind, date_kind, json_kind, select_kind, relation_kind, kind_named, kind_at, unique_at, field_at, field_read}
-use Rattle.pocket_rows.specs.Sound.{IsSmall, IsCellTree, IsSoundKind, IsSoundField, may_be_unique}
 
 -- ---- options
 

@@ -5,14 +5,14 @@ use Rattle.pocket_types.specs.declared.json.Jv.TheFolds.{fold-roll-Jv}
 use Rattle.pocket_types.specs.declared.records.Field.{Field}
 use Rattle.pocket_types.specs.declared.records.Kind.{Kind}
 use Rattle.pocket_types.specs.declared.records.Kind.TheVariants as kind
-use Rattle.pocket_json.specs.Profile.{rise, size_of, rising_step, rising_member, small_step, small_member, levels_step, levels_member}
+use Rattle.pocket_types.specs.Profile.{rise, size_of, rising_step, rising_member, small_step, small_member, levels_step, levels_member}
 use Rattle.pocket_json.proofs.Layers.{keys}
 use Rattle.pocket_json.proofs.Profiles.{Fine, AllFine, EntriesFine, fine_more, fine_list, fine_map}
 use Rattle.pocket_ops.specs.Cells.{texts_jv}
 use Rattle.pocket_ops.specs.Dates.{date_text}
 use Rattle.pocket_ops.specs.Trees.{null_jv, text_jv, num_jv, flag_jv, list_jv, date_jv, bound_jv, field_members, field_jv}
 use Rattle.pocket_rows.proofs.MemberLemmas.{Entries}
-use Rattle.pocket_rows.specs.Sound.{IsSmall, IsSoundKind, IsSoundField}
+use Rattle.pocket_types.specs.Sound.{IsSmall, IsSoundKind, IsSoundField}
 
 -- ---- trees of few levels
 

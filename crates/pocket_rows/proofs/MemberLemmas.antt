@@ -9,8 +9,7 @@ use Rattle.std.specs.declared.cmp.Ordering.TheVariants.{Less, Equal, Greater}
 use Rattle.std.proofs.lemmas.Bool.{false≢true}
 use Rattle.std.proofs.lemmas.Map.Text.{is_eq-slice_cmp}
 use Rattle.pocket_types.proofs.OrderLemmas.{equal_itself, same_from_equal}
-use Rattle.pocket_types.specs.declared.json.Jv.{Jv}
-use Rattle.pocket_types.specs.declared.json.Jv.{the_lemmas}
+use Rattle.pocket_types.specs.declared.json.Jv.{Jv, the_lemmas}
 use Rattle.pocket_types.specs.declared.json.Member.{Member}
 use Rattle.pocket_types.specs.declared.records.Cell.{Cell}
 use Rattle.pocket_types.specs.declared.records.Collection.{Collection}
@@ -19,11 +18,10 @@ use Rattle.pocket_types.specs.declared.records.Rec.{Rec}
 use Rattle.pocket_ops.specs.Dates.{date_text}
 use Rattle.pocket_types.specs.Maps.{member_of, put}
 use Rattle.pocket_ops.specs.Trees.{put_cells, cell_jv, text_jv, date_members, rec_members}
-use Rattle.pocket_keeper.specs.Plain.{is_reserved}
+use Rattle.pocket_types.specs.Sound.{is_reserved, IsSoundCollection}
 use Rattle.pocket_keeper.specs.Texts.{token_members}
 use Rattle.pocket_keeper.specs.declared.tokens.Token.{Token}
 use Rattle.pocket_rows.specs.Cells.{value_under, AreUnder, IsUnder, IsTokenUnder}
-use Rattle.pocket_rows.specs.Sound.{IsSoundCollection}
 
 abbrev pub Entries : Type 0
 Entries = List (List ℕ × Jv)

@@ -13,7 +13,7 @@ use Rattle.pocket_types.specs.declared.records.Field.{Field}
 use Rattle.pocket_types.specs.declared.records.Kind.{Kind}
 use Rattle.pocket_types.specs.declared.records.Kind.TheVariants as kind
 use Rattle.pocket_types.specs.declared.records.Rec.{Rec}
-use Rattle.pocket_json.specs.Profile.{IsProfiled}
+use Rattle.pocket_types.specs.Profile.{IsProfiled}
 use Rattle.pocket_json.specs.Reading.{read}
 use Rattle.pocket_json.proofs.RoundTrips.{read_printed}
 use Rattle.pocket_ops.specs.DateReading.{date_of}
@@ -27,7 +27,8 @@ use Rattle.pocket_rows.proofs.MomentLemmas.{date_text-read, date_text-filled}
 use Rattle.pocket_rows.proofs.ProfileLemmas.{kept_profiled, token_profiled}
 use Rattle.pocket_rows.proofs.TreeForms.{text_once, num_once, flag_once, list_once, texts_once, map_once}
 use Rattle.pocket_rows.specs.Cells.{AreFilled, AreItems, value_under, AreUnder, IsUnder, IsTokenUnder}
-use Rattle.pocket_rows.specs.Sound.{Fits, AllFit, IsSoundCollection, IsSoundRec, IsSoundToken}
+use Rattle.pocket_types.specs.Sound.{Fits, AllFit, IsSoundCollection, IsSoundRec}
+use Rattle.pocket_rows.specs.SoundTokens.{IsSoundToken}
 
 -- ---- moments
 

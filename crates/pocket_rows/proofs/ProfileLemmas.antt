@@ -12,7 +12,7 @@ use Rattle.pocket_types.specs.declared.records.Kind.{Kind}
 use Rattle.pocket_types.specs.declared.records.Kind.TheVariants as kind
 use Rattle.pocket_types.specs.declared.records.Rec.{Rec}
 use Rattle.pocket_types.specs.Kinds.{most_of}
-use Rattle.pocket_json.specs.Profile.{rise, rising_step, rising_member, size_of, small_step, small_member, levels_step, levels_member, IsProfiled}
+use Rattle.pocket_types.specs.Profile.{rise, rising_step, rising_member, size_of, small_step, small_member, levels_step, levels_member, IsProfiled}
 use Rattle.pocket_json.proofs.Layers.{keys}
 use Rattle.pocket_json.proofs.Profiles.{Fine, AllFine, EntriesFine, fine_more, fine_list, fine_map, put_fine, rise_put}
 use Rattle.pocket_ops.specs.Dates.{date_text}
@@ -21,7 +21,7 @@ use Rattle.pocket_ops.specs.Trees.{text_jv, num_jv, flag_jv, list_jv, date_jv, o
 use Rattle.pocket_keeper.specs.Texts.{token_members}
 use Rattle.pocket_keeper.specs.declared.tokens.Token.{Token}
 use Rattle.pocket_rows.proofs.MemberLemmas.{Entries}
-use Rattle.pocket_rows.specs.Sound.{IsSmall, Fits, AllFit, IsSoundRec}
+use Rattle.pocket_types.specs.Sound.{IsSmall, Fits, AllFit, IsSoundRec}
 
 -- ---- trees of one layer
 

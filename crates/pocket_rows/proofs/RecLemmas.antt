@@ -12,7 +12,7 @@ use Rattle.pocket_types.specs.declared.records.Cell.{Cell}
 use Rattle.pocket_types.specs.declared.records.Collection.{Collection}
 use Rattle.pocket_types.specs.declared.records.Field.{Field}
 use Rattle.pocket_types.specs.declared.records.Rec.{Rec}
-use Rattle.pocket_json.specs.Profile.{keys_rise, numbers_small, levels, greatest, IsProfiled}
+use Rattle.pocket_types.specs.Profile.{keys_rise, numbers_small, levels, greatest, IsProfiled}
 use Rattle.pocket_json.specs.Reading.{read, IsJson}
 use Rattle.pocket_json.proofs.Layers.{rising_map, small_map, levels_map}
 use Rattle.pocket_json.proofs.Profiles.{and_parts}
@@ -30,7 +30,8 @@ use Rattle.pocket_rows.proofs.ProfileLemmas.{kept_profiled, token_profiled}
 use Rattle.pocket_rows.proofs.TreeForms.{map_once, text_once}
 use Rattle.pocket_rows.specs.Cells.{AreShallow, value_under, IsNoTree, IsTreeOf, IsNoMap, MayBeMap, HasNoMoment, MayHaveMoment, HasNoCell, MayHaveCell, AreUnder, HasNoCells, MayHaveCells, IsUnder, HasNoRec, MayHaveRec, MayKeepRec, IsTokenUnder, HasNoToken, MayHaveToken, MayKeepToken}
 use Rattle.pocket_rows.specs.RowReading.{KeepsNoRec, KeepsNoToken}
-use Rattle.pocket_rows.specs.Sound.{IsCellTree, AllFit, IsSoundCollection, IsSoundRec, is_token}
+use Rattle.pocket_types.specs.Sound.{IsCellTree, AllFit, IsSoundCollection, IsSoundRec}
+use Rattle.pocket_rows.specs.SoundTokens.{is_token}
 
 -- ---- texts of trees
 

@@ -10,14 +10,15 @@ use Rattle.pocket_types.specs.declared.records.Collection.{Collection}
 use Rattle.pocket_types.specs.declared.records.Field.{Field}
 use Rattle.pocket_types.specs.declared.records.Kind.{Kind}
 use Rattle.pocket_types.specs.declared.records.Rec.{Rec}
-use Rattle.pocket_json.specs.Profile.{IsProfiled}
+use Rattle.pocket_types.specs.Profile.{IsProfiled}
 use Rattle.pocket_ops.specs.Dates.{date_text}
 use Rattle.pocket_types.specs.Maps.{map_jv, member_of}
 use Rattle.pocket_ops.specs.Trees.{text_jv, date_jv, cell_jv, items_jv}
 use Rattle.pocket_keeper.specs.Texts.{rec_row, token_row}
 use Rattle.pocket_keeper.specs.declared.rows.KeptRow.{KeptRow}
 use Rattle.pocket_keeper.specs.declared.tokens.Token.{Token}
-use Rattle.pocket_rows.specs.Sound.{IsCellTree, IsItem, Differ, Fits, AllFit, IsSoundRec, IsSoundToken}
+use Rattle.pocket_types.specs.Sound.{IsCellTree, IsItem, Differ, Fits, AllFit, IsSoundRec}
+use Rattle.pocket_rows.specs.SoundTokens.{IsSoundToken}
 
 -- ---- members
 

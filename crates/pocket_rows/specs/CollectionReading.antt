@@ -3,7 +3,7 @@ use Rattle.std.specs.Prelude.{◌≡◌, ◌≢◌, List, map, Option, Some, All
 use Rattle.pocket_types.specs.declared.json.Jv.{Jv}
 use Rattle.pocket_types.specs.declared.records.Field.{Field}
 use Rattle.pocket_ops.specs.Trees.{list_jv, field_jv}
-use Rattle.pocket_rows.specs.Sound.{IsSoundField}
+use Rattle.pocket_types.specs.Sound.{IsSoundField}
 
 -- sound fields whose names differ
 pub record AreFields (fs : List Field) : Type 0 where

@@ -9,7 +9,7 @@ use Rattle.pocket_keeper.specs.declared.rows.KeptRow.{KeptRow}
 use Rattle.pocket_rows.specs.declared.rules.Rules.{Rules}
 use Rattle.pocket_rows.specs.Cells.{value_under}
 use Rattle.pocket_rows.specs.CollectionReading.{AreFields}
-use Rattle.pocket_rows.specs.Sound.{IsWritten, IsSoundCollection}
+use Rattle.pocket_types.specs.Sound.{IsWritten, IsSoundCollection}
 
 -- ---- rules
 

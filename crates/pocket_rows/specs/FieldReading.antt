@@ -10,9 +10,8 @@ use Rattle.pocket_types.specs.declared.records.Field.{Field}
 use Rattle.pocket_types.specs.declared.records.Kind.{Kind}
 use Rattle.pocket_types.specs.declared.records.Kind.TheVariants as kind
 use Rattle.pocket_ops.specs.DateReading.{date_of}
-use Rattle.pocket_keeper.specs.Plain.{is_reserved}
+use Rattle.pocket_types.specs.Sound.{is_reserved, may_be_unique}
 use Rattle.pocket_rows.specs.Cells.{value_under}
-use Rattle.pocket_rows.specs.Sound.{may_be_unique}
 
 -- ---- trees without parts, by their outermost level
 

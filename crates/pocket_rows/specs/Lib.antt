@@ -3,4 +3,5 @@ pub mod CollectionReading
 pub mod CollectionRows
 pub mod FieldReading
 pub mod RowReading
-pub mod Sound
+pub mod SoundTokens
+pub use Rattle.pocket_types.specs.Sound

@@ -5,7 +5,8 @@ use Rattle.pocket_types.specs.declared.records.Rec.{Rec}
 use Rattle.pocket_keeper.specs.Texts.{collection_row, rec_row, token_row}
 use Rattle.pocket_keeper.specs.declared.rows.KeptRow.{KeptRow}
 use Rattle.pocket_keeper.specs.declared.tokens.Token.{Token}
-use Rattle.pocket_rows.specs.Sound.{IsSoundCollection, IsSoundRec, IsSoundToken}
+use Rattle.pocket_types.specs.Sound.{IsSoundCollection, IsSoundRec}
+use Rattle.pocket_rows.specs.SoundTokens.{IsSoundToken}
 
 -- no collection that could be sound has the row
 abbrev pub KeepsNoCollection : KeptRow → Type 0

@@ -3,7 +3,7 @@ ghost use Rattle.std.specs.Prelude.{◌≡◌, ◌≢◌, ℕ, ℤ, Bool, Option
 ghost use Rattle.pocket_types.specs.declared.records.Kind.TheVariants as kind;
 ghost use Rattle.pocket_ops.specs.Trees.{num_jv, flag_jv};
 ghost use Rattle.pocket_rows.specs.Cells.{MayBeCell, ReadsCell};
-ghost use Rattle.pocket_rows.specs.Sound.{IsCellTree};
+ghost use Rattle.pocket_types.specs.Sound.{IsCellTree};
 
 use crate::items::{ids_of, items_of};
 use crate::scalars::{date_of_text, text_of};

@@ -3,7 +3,7 @@ ghost use Rattle.std.specs.Prelude.{◌≡◌, ◌≢◌, ◌↔◌, codes, IfOk
 ghost use Rattle.pocket_rows.specs.Cells.{AreShallow};
 ghost use Rattle.pocket_rows.specs.CollectionReading.{ReadsFields};
 ghost use Rattle.pocket_rows.specs.FieldReading.{field_at, field_name_at, field_name_of, field_read, read_all, unique_at};
-ghost use Rattle.pocket_rows.specs.Sound.{IsCellTree};
+ghost use Rattle.pocket_types.specs.Sound.{IsCellTree};
 
 use crate::kinds::{kind_of, may_be_unique};
 use crate::members::value_under;

@@ -4,7 +4,7 @@ ghost use Rattle.pocket_types.specs.Names.{is_id};
 ghost use Rattle.pocket_ops.specs.Trees.{text_jv, list_jv, one_jv};
 ghost use Rattle.pocket_rows.specs.Cells.{AreFilled, IsNoItem, AreNoItems, MayBeItems};
 ghost use Rattle.pocket_rows.specs.FieldReading.{read_all, text_read};
-ghost use Rattle.pocket_rows.specs.Sound.{Differ, IsItem};
+ghost use Rattle.pocket_types.specs.Sound.{Differ, IsItem};
 
 use crate::scalars::text_of;
 use pocket_types::{Id, Jv, Seq, Text};

@@ -2,7 +2,7 @@
 ghost use Rattle.std.specs.Prelude.{◌≡◌, codes, IfOk};
 ghost use Rattle.pocket_rows.specs.Cells.{AreShallow};
 ghost use Rattle.pocket_rows.specs.FieldReading.{text_kind, number_kind, date_kind, json_kind, select_kind, relation_kind, kind_named, kind_at, texts_at, name_at};
-ghost use Rattle.pocket_rows.specs.Sound.{may_be_unique};
+ghost use Rattle.pocket_types.specs.Sound.{may_be_unique};
 
 use crate::items::texts_of;
 use crate::members::value_under;

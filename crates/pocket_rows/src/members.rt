@@ -6,7 +6,7 @@ ghost use Rattle.pocket_types.specs.declared.json.Jv.TheViews.{roll-Jv};
 ghost use Rattle.pocket_types.specs.declared.json.Member.{Member};
 ghost use Rattle.pocket_ops.specs.Trees.{text_jv};
 ghost use Rattle.pocket_rows.specs.Cells.{AreShallow, IsNoTree, IsTreeOf, IsNoMap, MayBeMap, value_under, HasNoMoment, MayHaveMoment};
-ghost use Rattle.pocket_rows.specs.Sound.{IsCellTree};
+ghost use Rattle.pocket_types.specs.Sound.{IsCellTree};
 
 use pocket_json::{JsonFault, read_jv};
 use pocket_ops::date_read;

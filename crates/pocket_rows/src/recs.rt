@@ -4,7 +4,7 @@ ghost use Rattle.pocket_types.specs.Names.{is_id};
 ghost use Rattle.pocket_keeper.specs.Texts.{rec_key};
 ghost use Rattle.pocket_rows.specs.Cells.{AreShallow, HasNoCell, MayHaveCell, HasNoCells, MayHaveCells, HasNoRec, MayHaveRec, MayKeepRec};
 ghost use Rattle.pocket_rows.specs.RowReading.{KeepsNoRec, KeepsRec};
-ghost use Rattle.pocket_rows.specs.Sound.{IsSoundCollection};
+ghost use Rattle.pocket_types.specs.Sound.{IsSoundCollection};
 
 use crate::cells::cell_of;
 use crate::members::{members_of, moment_under, value_under};

@@ -4,7 +4,7 @@ ghost use Rattle.pocket_types.specs.declared.records.Rule.{Rule};
 ghost use Rattle.pocket_ops.specs.Trees.{rule_jv, text_jv};
 ghost use Rattle.pocket_rows.specs.Cells.{AreShallow, value_under};
 ghost use Rattle.pocket_rows.specs.CollectionRows.{AreRulesUnder, HasNoRules, HasRules};
-ghost use Rattle.pocket_rows.specs.Sound.{IsWritten};
+ghost use Rattle.pocket_types.specs.Sound.{IsWritten};
 
 use crate::members::value_under;
 use pocket_types::{Jv, Member, Rule, Text};

@@ -5,7 +5,7 @@ ghost use Rattle.pocket_types.specs.Names.{is_name, is_id};
 ghost use Rattle.pocket_ops.specs.Trees.{text_jv};
 ghost use Rattle.pocket_rows.specs.Cells.{AreShallow, value_under, HasNoToken, MayHaveToken, MayKeepToken};
 ghost use Rattle.pocket_rows.specs.RowReading.{KeepsNoToken, KeepsToken};
-ghost use Rattle.pocket_rows.specs.Sound.{is_hex, is_token};
+ghost use Rattle.pocket_rows.specs.SoundTokens.{is_hex, is_token};
 
 use crate::members::{members_of, moment_under, text_under};
 use crate::scalars;

@@ -9,7 +9,8 @@ use Rattle.pocket_keeper.specs.declared.rows.KeptRow.{KeptRow}
 use Rattle.pocket_keeper.specs.declared.tokens.Token.{Token}
 use Rattle.pocket_keeper.proofs.Printing.{name_lacks_slash}
 use Rattle.pocket_keeper.proofs.Steps.{word_next}
-use Rattle.pocket_rows.specs.Sound.{IsSoundRec, IsSoundToken}
+use Rattle.pocket_types.specs.Sound.{IsSoundRec}
+use Rattle.pocket_rows.specs.SoundTokens.{IsSoundToken}
 use Rattle.pocket_rows.proofs.CollectionLemmas.{collection_once}
 use Rattle.pocket_rows.proofs.OnceLemmas.{rec_once, token_once}
 use Rattle.pocket_store.specs.SoundStates.{IsSoundRecIn, IsSoundShelf, IsSoundStored, IsSoundTokenIn}

@@ -3,9 +3,11 @@ pub mod JudgeLemmas
 pub mod LawLemmas
 pub mod LimitLemmas
 pub mod ListLemmas
+pub mod OpenLemmas
 pub mod OutcomeLemmas
 pub mod ReadableLemmas
 pub mod RisingLemmas
+pub mod RowOrderLemmas
 pub mod RuleLemmas
 pub mod SearchLemmas
 pub mod ShelfLemmas

@@ -9,7 +9,7 @@ use Rattle.pocket_keeper.specs.Texts.{collection_row, rec_row, token_row}
 use Rattle.pocket_keeper.specs.declared.rows.KeptRow.{KeptRow}
 use Rattle.pocket_keeper.specs.declared.tokens.Token.{Token}
 use Rattle.pocket_store.specs.Limits.{AreCounts}
-use Rattle.pocket_store.specs.Stores.{AreWithinLimits, begins, collections_in, records_in, tokens_in, value_len}
+use Rattle.pocket_store.specs.Stores.{AreWithinLimits, begins, collections_in, records_in, tokens_in}
 use Rattle.pocket_store.specs.declared.limits.Counts.{Counts}
 
 no_more : {X : Type 0} (xs : List X) → xs ++ [] ≡ xs
@@ -54,7 +54,7 @@ module _ (before : List KeptRow) (row : KeptRow) (c : Collection) (is : row ≡ 
       record {
         collections = ap (λ n. n.collections) e ∙ ap (λ n. n + 1) counts.collections ∙ sym more;
         records = ap (λ n. n.records) e ∙ counts.records ∙ ap length (sym records_stay);
-        store = ap (λ n. n.store) e ∙ counts.store ∙ ap (sum_by value_len) (sym records_stay);
+        store = ap (λ n. n.store) e ∙ counts.store ∙ ap (sum_by (λ row. length row.value)) (sym records_stay);
         tokens = ap (λ n. n.tokens) e ∙ counts.tokens ∙ ap length (sym tokens_stay);
         within = record {
           collections = omega (arith, counts.collections);
@@ -79,8 +79,8 @@ module _ (before : List KeptRow) (row : KeptRow) (c : Collection) (r : Rec) (is 
   pub records_grow : length (records_in (before ++ row ∷ [])) ≡ length (records_in before) + 1
   records_grow = ap length records_more ∙ length_more (records_in before) row
 
-  pub store_grows : sum_by value_len (records_in (before ++ row ∷ [])) ≡ sum_by value_len (records_in before) + length row.value
-  store_grows = ap (sum_by value_len) records_more ∙ sum_by_push value_len (records_in before) row
+  pub store_grows : sum_by (λ row. length row.value) (records_in (before ++ row ∷ [])) ≡ sum_by (λ row. length row.value) (records_in before) + length row.value
+  store_grows = ap (sum_by (λ row. length row.value)) records_more ∙ sum_by_push (λ row. length row.value) (records_in before) row
 
   pub count_rec : (old : Counts) (result : Option Counts) → AreCounts before old
       → MatchOption result ((200000 ≤ old.records) ⊎ (268435456 < old.store + length row.value))
@@ -127,7 +127,7 @@ module _ (before : List KeptRow) (row : KeptRow) (t : Token) (is : row ≡ token
       record {
         collections = ap (λ n. n.collections) e ∙ counts.collections ∙ ap length (sym token_collections_stay);
         records = ap (λ n. n.records) e ∙ counts.records ∙ ap length (sym token_records_stay);
-        store = ap (λ n. n.store) e ∙ counts.store ∙ ap (sum_by value_len) (sym token_records_stay);
+        store = ap (λ n. n.store) e ∙ counts.store ∙ ap (sum_by (λ row. length row.value)) (sym token_records_stay);
         tokens = ap (λ n. n.tokens) e ∙ ap (λ n. n + 1) counts.tokens ∙ sym tokens_grow;
         within = record {
           collections = rw token_collections_stay w.collections;

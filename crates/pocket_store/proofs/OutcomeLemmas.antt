@@ -6,9 +6,9 @@ use Rattle.std.proofs.lemmas.List.Sums.{sum_by-append}
 use Rattle.pocket_types.specs.declared.records.Collection.{Collection}
 use Rattle.pocket_keeper.specs.Texts.{collection_row}
 use Rattle.pocket_keeper.specs.declared.rows.KeptRow.{KeptRow}
-use Rattle.pocket_rows.specs.Sound.{IsSoundCollection}
+use Rattle.pocket_types.specs.Sound.{IsSoundCollection}
 use Rattle.pocket_store.specs.SoundStates.{IsSoundStored}
-use Rattle.pocket_store.specs.Stores.{AreGood, AreReadable, AreWithinLimits, IsFirstBadRow, IsGoodRow, IsStoreOf, begins, value_len}
+use Rattle.pocket_store.specs.Stores.{AreGood, AreReadable, AreWithinLimits, IsFirstBadRow, IsGoodRow, IsStoreOf, begins}
 use Rattle.pocket_store.specs.declared.stored.Stored.{Stored}
 use Rattle.pocket_store.proofs.LawLemmas.{equal_states}
 use Rattle.pocket_store.proofs.ListLemmas.{IsIn, all_in, in_back, in_from_contains}
@@ -33,10 +33,10 @@ fewer front xs ys =
     let parts = ap length (filter-append (begins front) xs ys) in
     omega (arith, parts, length-append (filter (begins front) xs) (filter (begins front) ys))
 
-shorter : (front : List ℕ) (xs ys : List KeptRow) → sum_by value_len (filter (begins front) xs) ≤ sum_by value_len (filter (begins front) (xs ++ ys))
+shorter : (front : List ℕ) (xs ys : List KeptRow) → sum_by (λ row. length row.value) (filter (begins front) xs) ≤ sum_by (λ row. length row.value) (filter (begins front) (xs ++ ys))
 shorter front xs ys =
-    let parts = ap (sum_by value_len) (filter-append (begins front) xs ys) in
-    omega (arith, parts, sum_by-append value_len (filter (begins front) xs) (filter (begins front) ys))
+    let parts = ap (sum_by (λ row. length row.value)) (filter-append (begins front) xs ys) in
+    omega (arith, parts, sum_by-append (λ row. length row.value) (filter (begins front) xs) (filter (begins front) ys))
 
 within_front : (xs ys : List KeptRow) → AreWithinLimits (xs ++ ys) → AreWithinLimits xs
 within_front xs ys w = record {

@@ -17,7 +17,7 @@ use Rattle.pocket_keeper.proofs.Printing.{name_lacks_slash}
 use Rattle.pocket_keeper.proofs.Steps.{word_next}
 use Rattle.pocket_store.specs.Reading.{AddsCollection, IsPlaceOf, IsGoodRecAt}
 use Rattle.pocket_rows.specs.RowReading.{KeepsCollection, KeepsNoCollection, KeepsNoRec, KeepsRec}
-use Rattle.pocket_rows.specs.Sound.{IsSoundCollection}
+use Rattle.pocket_types.specs.Sound.{IsSoundCollection}
 use Rattle.pocket_store.specs.Stores.{AllHoldKept, AreReadable, FitsAmong, HasKey, IsCollectionRow, IsGoodRec, IsKeptMember, IsRecRow}
 use Rattle.pocket_store.proofs.ListLemmas.{IsIn, all_in, all_from_in, contains_from_in, in_back, in_either, in_from_contains, in_from_get, in_front, parts_at}
 use Rattle.pocket_store.proofs.RisingLemmas.{same_key}
@@ -91,7 +91,7 @@ readable_more before row cs c keeps earlier read =
 
 -- ---- collections by name
 
-got_is : {X : Type 0} (xs : List X) (k : ℕ) (x d : X) → slice_get xs k ≡ Some x → get_or xs k d ≡ x
+pub got_is : {X : Type 0} (xs : List X) (k : ℕ) (x d : X) → slice_get xs k ≡ Some x → get_or xs k d ≡ x
 got_is [] k x d e = cc
 got_is (y ∷ ys) zero x d e = cc
 got_is (y ∷ ys) (suc k) x d e = got_is ys k x d e

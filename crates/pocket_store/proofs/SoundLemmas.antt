@@ -1,6 +1,6 @@
 -- The state of good rows is sound.
-use Rattle.std.proofs.Common.{◌≡◌, ◌⊎◌, inl, inr, ◌≤◌, List, [], ◌∷◌, ◌++◌, Option, Some, None, length, get_or, map, refl, sym, ◌∙◌, ap, subst, arith, All, codes}
-use Rattle.std.specs.Prelude.{Contains, IfSome, IsTrue}
+use Rattle.std.proofs.Common.{◌≡◌, ◌⊎◌, inl, inr, ◌≤◌, List, [], ◌∷◌, ◌++◌, length, get_or, map, refl, sym, ◌∙◌, ap, subst, arith, All, codes}
+use Rattle.std.specs.Prelude.{Contains, IsTrue}
 use Rattle.std.proofs.lemmas.List.{append_cancel_left, length-map}
 use Rattle.std.proofs.lemmas.List.Elements.{All-head, All-tail, All-weaker}
 use Rattle.pocket_types.specs.Kinds.{target_of}
@@ -24,19 +24,15 @@ use Rattle.pocket_keeper.specs.declared.rows.KeptRow.{KeptRow}
 use Rattle.pocket_keeper.specs.declared.tokens.Token.{Token}
 use Rattle.pocket_keeper.proofs.Printing.{name_lacks_slash}
 use Rattle.pocket_keeper.proofs.Steps.{word_next}
-use Rattle.pocket_rows.specs.Sound.{IsSoundCollection, IsSoundField, IsSoundKind}
+use Rattle.pocket_types.specs.Sound.{IsSoundCollection, IsSoundField, IsSoundKind}
 use Rattle.pocket_store.specs.Drafts.{AreGoodRecs, IsWhole, draft, shelves_of}
-use Rattle.pocket_store.specs.SoundStates.{AllHoldWithin, HasRec, HoldsWithin, IsShelf, IsSoundRecIn, IsSoundShelf, IsSoundStored, IsSoundTokenIn, IsSoundWorld, LeadsWithin}
+use Rattle.pocket_store.specs.SoundStates.{IsSoundRecIn, IsSoundShelf, IsSoundStored, IsSoundTokenIn, IsSoundWorld}
+use Rattle.pocket_types.specs.Within.{AllHoldWithin, HasRec, HoldsWithin, IsShelf, LeadsWithin}
 use Rattle.pocket_store.specs.Stores.{AllHoldKept, AreReadable, FitsAmong, HasKey, HoldsKept, IsGoodRec, IsGoodRow, IsGoodToken, LeadsToKept, RulesResolve, begins, collections_in}
-use Rattle.pocket_store.proofs.ListLemmas.{IsIn, all_in, all_from_in, contains_from_in, in_either, in_from_contains, in_map_back, in_filter}
+use Rattle.pocket_store.proofs.ListLemmas.{IsIn, all_in, all_from_in, contains_from_in, in_either, in_from_contains, in_map_back, in_filter, some_map}
 use Rattle.pocket_store.proofs.RisingLemmas.{rising_within, same_key}
 use Rattle.pocket_store.proofs.SearchLemmas.{key_of, name_of}
 use Rattle.pocket_store.proofs.StoreLemmas.{collection_in, kept_rows, shelf_of, shelves_rows}
-
--- what follows for the value of a Some
-some_map : {X : Type 0} (P Q : X → Type 0) (o : Option X) → ((x : X) → P x → Q x) → IfSome o P → IfSome o Q
-some_map P Q (Some x) f h = f x h
-some_map P Q None f h = tt
 
 -- ---- the shelves
 

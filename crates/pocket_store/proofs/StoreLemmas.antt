@@ -18,8 +18,8 @@ use Rattle.pocket_store.specs.Finding.{Holds}
 use Rattle.pocket_store.specs.declared.stores.Found.{Found}
 use Rattle.pocket_store.specs.declared.stores.Found.TheVariants as found
 use Rattle.pocket_store.specs.Limits.{AreJudged}
-use Rattle.pocket_store.specs.SoundStates.{text_len}
-use Rattle.pocket_store.specs.Stores.{AreReadable, IsGoodRec, IsGoodToken, records_in, shelf_rows, value_len}
+use Rattle.pocket_ops.specs.Lengths.{row_len}
+use Rattle.pocket_store.specs.Stores.{AreReadable, IsGoodRec, IsGoodToken, records_in, shelf_rows}
 use Rattle.std.proofs.Math.ListN.{length-set}
 use Rattle.pocket_keeper.specs.Rows.{IsRising}
 use Rattle.pocket_store.proofs.JudgeLemmas.{row_more}
@@ -69,7 +69,7 @@ shelf_of x (t ∷ ts) h =
       | inr later ↦ let rest = shelf_of x ts later in (rest.0, inr rest.1, rest.2)
     ]
 
-shelf_rows_more : (s : Shelf) (r : Rec) → shelf_rows (with_rec s r) ≡ shelf_rows s ++ rec_row s.collection r ∷ []
+pub shelf_rows_more : (s : Shelf) (r : Rec) → shelf_rows (with_rec s r) ≡ shelf_rows s ++ rec_row s.collection r ∷ []
 shelf_rows_more s r = ap (λ t. collection_row s.collection ∷ t) (map-append (rec_row s.collection) s.recs (r ∷ []))
 
 pub rec_more : (shelves : List Shelf) (at : ℕ) (s : Shelf) (r : Rec) (x : KeptRow) → slice_get shelves at ≡ Some s
@@ -109,7 +109,7 @@ sum_set f (z ∷ xs) zero x y more e h =
 sum_set f (z ∷ xs) (suc at) x y more e h =
     omega (arith, sum_set f xs at x y more e h, sum_by-cons f z xs, sum_by-cons f z (slice_set xs at y))
 
-ids_before : (c : Collection) (r q : Rec) → IsBefore (rec_row c r).key (rec_row c q).key → IsBefore r.id q.id
+pub ids_before : (c : Collection) (r q : Rec) → IsBefore (rec_row c r).key (rec_row c q).key → IsBefore r.id q.id
 ids_before c r q h =
     before_from_append (47 ∷ []) r.id q.id
     (before_from_append c.name (47 ∷ r.id) (47 ∷ q.id) (before_from_append (codes "r/") (c.name ++ (47 ∷ r.id)) (c.name ++ (47 ∷ q.id)) h))
@@ -155,7 +155,7 @@ module _ (rows : List KeptRow) (cs : List Collection) (before : List KeptRow) (r
     tokens = tokens_stay;
     counted = record {
       records = read.counted.records ∙ ap length (sym (limit.records_stay before row s.collection is));
-      store = read.counted.store ∙ ap (sum_by value_len) (sym (limit.records_stay before row s.collection is));
+      store = read.counted.store ∙ ap (sum_by (λ row. length row.value)) (sym (limit.records_stay before row s.collection is));
       tokens = read.counted.tokens ∙ ap length (sym (limit.tokens_stay before row s.collection is));
     };
   }
@@ -196,8 +196,8 @@ module _ (rows : List KeptRow) (cs : List Collection) (before : List KeptRow) (r
               sum_set (λ u. length u.recs) shelves at s (with_rec s r) 1 place (length-append s.recs (r ∷ [])) ∙ ap (λ n. n + 1) read.counted.records
               ∙ sym (limit.records_grow before row c r good.kept);
           store =
-              sum_set shelf_len shelves at s (with_rec s r) (text_len c r) place (sum_by_push (text_len c) s.recs r) ∙ ap (λ n. n + text_len c r) read.counted.store
-              ∙ ap (λ x. sum_by value_len (records_in before) + value_len x) (sym good.kept) ∙ sym (limit.store_grows before row c r good.kept);
+              sum_set shelf_len shelves at s (with_rec s r) (row_len c r) place (sum_by_push (row_len c) s.recs r) ∙ ap (λ n. n + row_len c r) read.counted.store
+              ∙ ap (λ x. sum_by (λ row. length row.value) (records_in before) + length x.value) (sym good.kept) ∙ sym (limit.store_grows before row c r good.kept);
           tokens = read.counted.tokens ∙ ap length (sym (limit.rec_tokens_stay before row c r good.kept));
         };
       }
@@ -234,7 +234,7 @@ module _ (rows : List KeptRow) (cs : List Collection) (before : List KeptRow) (r
         };
         counted = record {
           records = read.counted.records ∙ ap length (sym (limit.token_records_stay before row t good.kept));
-          store = read.counted.store ∙ ap (sum_by value_len) (sym (limit.token_records_stay before row t good.kept));
+          store = read.counted.store ∙ ap (sum_by (λ row. length row.value)) (sym (limit.token_records_stay before row t good.kept));
           tokens = length-append ts (t ∷ []) ∙ ap (λ n. n + 1) read.counted.tokens ∙ sym (limit.tokens_grow before row t good.kept);
         };
       }
@@ -322,7 +322,7 @@ nothing_read rows cs shelves empty = record {
   };
   counted = record {
     records = sum_empty (λ s. length s.recs) shelves (All-weaker (λ s. s.recs ≡ []) (λ s. length s.recs ≡ 0) (λ s e. ap length e) shelves empty);
-    store = sum_empty shelf_len shelves (All-weaker (λ s. s.recs ≡ []) (λ s. shelf_len s ≡ 0) (λ s e. ap (sum_by (text_len s.collection)) e) shelves empty);
+    store = sum_empty shelf_len shelves (All-weaker (λ s. s.recs ≡ []) (λ s. shelf_len s ≡ 0) (λ s e. ap (sum_by (row_len s.collection)) e) shelves empty);
     tokens = refl;
   };
 }

@@ -8,8 +8,8 @@ use Rattle.pocket_keeper.specs.Texts.{rec_row, token_row}
 use Rattle.pocket_keeper.specs.declared.rows.KeptRow.{KeptRow}
 use Rattle.pocket_keeper.specs.declared.tokens.Token.{Token}
 use Rattle.pocket_store.specs.Limits.{AreJudged}
-use Rattle.pocket_store.specs.SoundStates.{text_len}
-use Rattle.pocket_store.specs.Stores.{HaveSameRows, IsGoodRec, IsGoodToken, records_in, stored_rows, tokens_in, value_len}
+use Rattle.pocket_ops.specs.Lengths.{row_len}
+use Rattle.pocket_store.specs.Stores.{HaveSameRows, IsGoodRec, IsGoodToken, records_in, stored_rows, tokens_in}
 use Rattle.pocket_store.specs.declared.stored.Stored.{Stored}
 use Rattle.pocket_store.specs.declared.stores.Found.{Found}
 use Rattle.pocket_store.specs.declared.stores.Found.TheVariants as found
@@ -56,12 +56,12 @@ pub record AreGoodTokens (rows : List KeptRow) (cs : List Collection) (ts : List
 
 -- the bytes of the row texts of a shelf's records
 abbrev pub shelf_len : Shelf → ℕ
-shelf_len s = sum_by (text_len s.collection) s.recs
+shelf_len s = sum_by (row_len s.collection) s.recs
 
 -- the shelves and tokens take of the limits what these rows take
 pub record AreCounted (rows : List KeptRow) (shelves : List Shelf) (ts : List Token) : Type 0 where
   pub records : sum_by (λ s. length s.recs) shelves ≡ length (records_in rows)
-  pub store : sum_by shelf_len shelves ≡ sum_by value_len (records_in rows)
+  pub store : sum_by shelf_len shelves ≡ sum_by (λ row. length row.value) (records_in rows)
   pub tokens : length ts ≡ length (tokens_in rows)
 
 -- the rows are good, and those of the state that was read from them

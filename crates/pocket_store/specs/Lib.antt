@@ -4,3 +4,7 @@ pub mod Limits
 pub mod Reading
 pub mod SoundStates
 pub mod Stores
+pub use Rattle.pocket_types.specs.Sound
+pub use Rattle.pocket_types.specs.Within
+pub use Rattle.pocket_ops.specs.Lengths
+pub use Rattle.pocket_rows.specs.SoundTokens

@@ -22,7 +22,8 @@ use Rattle.pocket_resolve.specs.declared.purpose.Purpose.TheVariants.{RuleOf}
 use Rattle.pocket_keeper.specs.Texts.{collection_key, collection_row, rec_key, rec_row, token_row}
 use Rattle.pocket_keeper.specs.declared.rows.KeptRow.{KeptRow}
 use Rattle.pocket_keeper.specs.declared.tokens.Token.{Token}
-use Rattle.pocket_rows.specs.Sound.{IsSoundCollection, IsSoundRec, IsSoundToken}
+use Rattle.pocket_types.specs.Sound.{IsSoundCollection, IsSoundRec}
+use Rattle.pocket_rows.specs.SoundTokens.{IsSoundToken}
 use Rattle.pocket_store.specs.declared.stored.Stored.{Stored}
 use Rattle.pocket_store.specs.declared.stored.StoreFault.{StoreFault}
 use Rattle.pocket_store.specs.declared.stored.StoreFault.TheVariants.{BadStore, Memory}
@@ -148,14 +149,11 @@ records_in rows = filter (begins (codes "r/")) rows
 abbrev pub tokens_in : List KeptRow → List KeptRow
 tokens_in rows = filter (begins (codes "t/")) rows
 
-abbrev pub value_len : KeptRow → ℕ
-value_len row = length row.value
-
 -- rows that pass no limit together
 pub record AreWithinLimits (rows : List KeptRow) : Type 0 where
   pub collections : length (collections_in rows) ≤ 100
   pub records : length (records_in rows) ≤ 200000
-  pub store : sum_by value_len (records_in rows) ≤ 268435456
+  pub store : sum_by (λ row. length row.value) (records_in rows) ≤ 268435456
   pub tokens : length (tokens_in rows) ≤ 10000
 
 -- the rows may stand in a store

@@ -1,5 +1,6 @@
 // What follows from the definitions. Each law is a function without a body.
 ghost use Rattle.std.specs.Prelude.{◌≡◌, ℕ, List};
+ghost use Rattle.pocket_keeper.specs.Rows.{IsRising};
 ghost use Rattle.pocket_keeper.specs.declared.rows.KeptRow.{KeptRow};
 ghost use Rattle.pocket_store.specs.SoundStates.{IsSoundStored};
 ghost use Rattle.pocket_store.specs.Stores.{AreGood, HaveSameRows, IsFirstBadRow, IsStoreOf, stored_rows};
@@ -9,6 +10,11 @@ ghost use Rattle.pocket_store.specs.declared.stored.Stored.{Stored};
 /// tokens.
 pub fn sound_states_with_equal_rows_are_equal()
     ensures { (a : Stored) (b : Stored) → IsSoundStored a → IsSoundStored b → HaveSameRows (stored_rows a) (stored_rows b) → a ≡ b }
+{}
+
+/// Every sound state, printed as rows in the order of their keys, is a store that opens to it.
+pub fn a_sound_state_opens()
+    ensures { (rows : List KeptRow) (s : Stored) → IsSoundStored s → IsRising rows → HaveSameRows rows (stored_rows s) → IsStoreOf rows s }
 {}
 
 /// Rows stand for at most one sound state and have at most one first bad row, and never both.

@@ -6,5 +6,8 @@ pub mod Maps
 pub mod Names
 pub mod Order
 pub mod Paths
+pub mod Profile
+pub mod Sound
+pub mod Within
 pub mod World
 pub mod formers

@@ -1,6 +1,6 @@
 use Rattle.std.proofs.Common.{All, subst}
 use Rattle.pocket_keeper.specs.Plain.{LacksRec}
-use Rattle.pocket_core.proofs.OpeningLemmas.{take_all}
+use Rattle.pocket_store.proofs.ListLemmas.{take_all}
 use Rattle.pocket_core.proofs.opening.find_rec_row.Goals as goal
 
 pub returns : goal.returns

@@ -3,7 +3,7 @@ use Rattle.pocket_types.specs.declared.json.Jv.{the_lemmas}
 use Rattle.pocket_ops.specs.Trees.{list_jv}
 use Rattle.pocket_rows.proofs.FieldSoundness.{items_shallow, fields_found, fields_unread, fields_alike}
 use Rattle.pocket_rows.specs.FieldReading.{field_read, read_all}
-use Rattle.pocket_rows.specs.Sound.{IsCellTree}
+use Rattle.pocket_types.specs.Sound.{IsCellTree}
 use Rattle.pocket_rows.proofs.fields.fields_of.Goals as goal
 
 pub listed-requires : goal.listed-requires

@@ -2,7 +2,7 @@ use Rattle.std.proofs.Common.{◌≡◌, ◌↔◌, IsTrue, sym, ◌∙◌, subs
 use Rattle.pocket_types.specs.declared.json.Jv.{the_lemmas}
 use Rattle.pocket_ops.specs.Trees.{list_jv}
 use Rattle.pocket_rows.proofs.CellLemmas.{several-none_differ}
-use Rattle.pocket_rows.specs.Sound.{Differ}
+use Rattle.pocket_types.specs.Sound.{Differ}
 use Rattle.pocket_rows.proofs.items.several_of.Goals as goal
 
 pub returns-else-branch : goal.returns-else-branch

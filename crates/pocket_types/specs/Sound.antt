@@ -1,8 +1,9 @@
--- What a field, a collection, a record and a token must be, each by itself, to stand in a sound state.
-use Rattle.std.specs.Prelude.{◌≡◌, ◌≢◌, ◌≤◌, ◌<◌, ◌^◌, ◌==◌, ◌&&◌, ◌||◌, not, nat_le, ℕ, ℤ, Bool, true, false, List, [], ◌∷◌, length, IfSome, All, AllPairs, IsTrue, IsUtf8}
-use Rattle.std.specs.List.{list_all}
+-- What a field, a collection and a record must be, each by itself, to stand in a sound state.
+use Rattle.std.specs.Prelude.{◌≡◌, ◌≢◌, ◌≤◌, ◌<◌, ◌^◌, ◌||◌, not, ℕ, ℤ, Bool, true, false, List, [], ◌∷◌, codes, length, IfSome, All, AllPairs, IsTrue, IsUtf8}
+use Rattle.std.specs.Str.{bytes_eq}
 use Rattle.pocket_types.specs.Kinds.{is_multiple}
 use Rattle.pocket_types.specs.Names.{is_name, is_id, IsMoment}
+use Rattle.pocket_types.specs.Profile.{keys_rise, numbers_small, levels, size_of}
 use Rattle.pocket_types.specs.declared.json.Jv.{Jv}
 use Rattle.pocket_types.specs.declared.records.Cell.{Cell}
 use Rattle.pocket_types.specs.declared.records.Cell.TheVariants as cell
@@ -13,11 +14,17 @@ use Rattle.pocket_types.specs.declared.records.Kind.TheVariants as kind
 use Rattle.pocket_types.specs.declared.records.Rec.{Rec}
 use Rattle.pocket_types.specs.declared.records.Rule.{Rule}
 use Rattle.pocket_types.specs.declared.records.Rule.TheVariants as rule
-use Rattle.pocket_json.specs.Profile.{keys_rise, numbers_small, levels, size_of}
-use Rattle.pocket_keeper.specs.Plain.{IsFieldName}
-use Rattle.pocket_keeper.specs.declared.tokens.Token.{Token}
 
 -- ---- fields
+
+-- the names that no field may have
+abbrev pub is_reserved : List ℕ → Bool
+is_reserved name =
+    bytes_eq name (codes "id") || bytes_eq name (codes "created") || bytes_eq name (codes "updated") || bytes_eq name (codes "collectionName") || bytes_eq name (codes "expand")
+
+-- a name that a field may have
+abbrev pub IsFieldName : List ℕ → Type 0
+IsFieldName name = IsTrue (is_name name) × (is_reserved name ≡ false)
 
 -- a number of at most 2^53 - 1 in size
 abbrev pub IsSmall : ℤ → Type 0
@@ -109,20 +116,3 @@ pub record IsSoundRec (c : Collection) (r : Rec) : Type 0 where
   pub created : IsMoment r.created
   pub updated : IsMoment r.updated
   pub cells : AllFit c.fields r.cells
-
--- ---- tokens
-
--- a digit of 0 to 9 and a to f
-abbrev pub is_hex : ℕ → Bool
-is_hex b = (nat_le 48 b && nat_le b 57) || (nat_le 97 b && nat_le b 102)
-
--- 32 hexadecimal digits in lower case
-abbrev pub is_token : List ℕ → Bool
-is_token text = length text == 32 && list_all is_hex text
-
--- a token by itself
-pub record IsSoundToken (t : Token) : Type 0 where
-  pub text : IsTrue (is_token t.text)
-  pub collection : IsTrue (is_name t.collection)
-  pub id : IsTrue (is_id t.id)
-  pub until : IsMoment t.until

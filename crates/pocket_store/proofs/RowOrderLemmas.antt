@@ -20,9 +20,10 @@ use Rattle.pocket_types.specs.declared.world.Shelf.{Shelf}
 use Rattle.pocket_keeper.specs.Texts.{rec_row}
 use Rattle.pocket_keeper.specs.declared.rows.KeptRow.{KeptRow}
 use Rattle.pocket_keeper.proofs.Printing.{name_words}
-use Rattle.pocket_store.specs.SoundStates.{text_len}
-use Rattle.pocket_store.specs.Stores.{value_len}
+use Rattle.pocket_ops.specs.Lengths.{row_len}
+use Rattle.pocket_store.specs.Drafts.{shelf_len}
 use Rattle.pocket_store.proofs.ListLemmas.{IsIn, all_in, all_from_in, in_back, in_either, in_front, in_map_back}
+use Rattle.pocket_store.proofs.SearchLemmas.{key_of}
 
 -- ---- keys
 
@@ -52,9 +53,6 @@ names_decide (x ∷ xs) (y ∷ ys) s t w h =
           ap (λ o. ordering_then o (slice_cmp nat_cmp (xs ++ (47 ∷ s)) (ys ++ (47 ∷ t)))) rest.0
           ∙ names_decide xs ys s t (later_words y ys w) rest.1
     ]
-
-abbrev pub key_of : KeptRow → List ℕ
-key_of row = row.key
 
 abbrev pub name_of : Shelf → List ℕ
 name_of s = s.collection.name
@@ -115,15 +113,12 @@ count_recs (s ∷ shelves) =
     length-append (own_rows s) (rec_rows shelves) ∙ (λ i. length-map s.recs (rec_row s.collection) i + count_recs shelves i)
     ∙ sym (sum_by-cons (λ s. length s.recs) s shelves)
 
-own_len : (c : Collection) (recs : List Rec) → sum_by value_len (map (rec_row c) recs) ≡ sum_by (text_len c) recs
+own_len : (c : Collection) (recs : List Rec) → sum_by (λ row. length row.value) (map (rec_row c) recs) ≡ sum_by (row_len c) recs
 own_len c [] = refl
 own_len c (r ∷ recs) =
-    sum_by-cons value_len (rec_row c r) (map (rec_row c) recs) ∙ ap (λ n. text_len c r + n) (own_len c recs) ∙ sym (sum_by-cons (text_len c) r recs)
+    sum_by-cons (λ row. length row.value) (rec_row c r) (map (rec_row c) recs) ∙ ap (λ n. row_len c r + n) (own_len c recs) ∙ sym (sum_by-cons (row_len c) r recs)
 
-abbrev shelf_len : Shelf → ℕ
-shelf_len s = sum_by (text_len s.collection) s.recs
-
-pub count_len : (shelves : List Shelf) → sum_by value_len (rec_rows shelves) ≡ sum_by shelf_len shelves
+pub count_len : (shelves : List Shelf) → sum_by (λ row. length row.value) (rec_rows shelves) ≡ sum_by shelf_len shelves
 count_len [] = refl
 count_len (s ∷ shelves) =
-    sum_by-append value_len (own_rows s) (rec_rows shelves) ∙ (λ i. own_len s.collection s.recs i + count_len shelves i) ∙ sym (sum_by-cons shelf_len s shelves)
+    sum_by-append (λ row. length row.value) (own_rows s) (rec_rows shelves) ∙ (λ i. own_len s.collection s.recs i + count_len shelves i) ∙ sym (sum_by-cons shelf_len s shelves)

@@ -1,11 +1,10 @@
--- What holds of every tree that was read.
+-- The profile of JSON trees: what holds of every tree that is read or kept.
 use Rattle.std.specs.Prelude.{ℕ, suc, max, ◌≤◌, ◌^◌, ◌&&◌, ℤ, pos, negsuc, List, [], ◌∷◌, map, Bool, true, nat_lt, IsTrue}
 use Rattle.std.specs.List.{list_all}
 use Rattle.pocket_types.specs.Order.{is_before}
 use Rattle.pocket_types.specs.declared.json.Jv.{Jv, fold-Jv}
 use Rattle.pocket_types.specs.declared.json.Jv.TheOpen as jv
 use Rattle.pocket_types.specs.declared.json.Jv.TheOpen.{Jv-F, Member-F}
-use Rattle.pocket_json.specs.Reading.{max_levels}
 
 -- ---- keys
 
@@ -78,6 +77,10 @@ levels_member m = m.value
 -- how deep lists and maps nest
 abbrev pub levels : Jv → ℕ
 levels = fold-Jv ℕ ℕ levels_step levels_member
+
+-- the most levels of JSON of the profile
+abbrev pub max_levels : ℕ
+max_levels = 32
 
 -- a tree whose keys rise, whose numbers are small, and which has no more levels than JSON of the profile
 pub record IsProfiled (tree : Jv) : Type 0 where
