@@ -16,12 +16,12 @@ use Rattle.pocket_resolve.specs.declared.ends.Reading.TheVariants.{As, Items}
 use Rattle.pocket_resolve.specs.declared.purpose.Purpose.{Purpose}
 use Rattle.pocket_resolve.specs.Filters.{home_of, is_guarded, setting, resolution}
 use Rattle.pocket_resolve.specs.Names.{macro_named}
-use Rattle.pocket_resolve.specs.Paths.{Setting, Place, field_at, place_named, leaf_read, no_suffix, along}
-use Rattle.pocket_resolve.specs.Roots.{is_privileged, of_request, of_collection, of_macro, of_first, of_sign, of_path, side, bare}
+use Rattle.pocket_resolve.specs.Paths.{Setting, Place, field_at, place_named, leaf_read, End, no_suffix, along}
+use Rattle.pocket_resolve.specs.Roots.{no_part, is_privileged, of_request, of_collection, of_macro, of_first, of_sign, of_path, side, bare}
 use Rattle.pocket_resolve.specs.Safety.{LeadsShown, IsOwnPath, IsSideSafe, IsSafe}
 use Rattle.pocket_resolve.specs.Typing.{IsRecordOf}
 use Rattle.pocket_resolve.proofs.Sides.{resolved_sides}
-use Rattle.pocket_resolve.proofs.Walks.{value_of, no_value, both_ok, was_there, was_let, second_fails, EndsWith, Ends, IsKept, go_on, home_ends, alone_is}
+use Rattle.pocket_resolve.proofs.Walks.{value_of, no_value, both_ok, was_there, was_let, second_fails, EndsWith, Ends, IsKept, go_on, home_ends}
 
 -- an own path goes on by a field that isn't hidden
 own_on : (s : Setting) → s.guarded ≡ true → IsKept s (IsOwnPath s.collections s.home)
@@ -32,22 +32,23 @@ read_safe : (s : Setting) (prefix : Prefix) (place : Place) (f : Field) (r : Rea
 read_safe s prefix place f (As m) own found shown = (place, own, inr (f, found, shown))
 read_safe s prefix place f Items own found shown = (prefix.steps, f.name, place, refl, own, (f, found, shown))
 
-end_safe : (s : Setting) → s.guarded ≡ true → (prefix : Prefix) (place : Place) (l : Leaf) → IsOwnPath s.collections s.home prefix place → EndsWith s place prefix l → IsSideSafe s.collections s.home l
-end_safe s g prefix place l own (inl e) = subst (IsSideSafe s.collections s.home) e.2 (place, own, inl e.1)
-end_safe s g prefix place l own (inr e) =
-    subst (IsSideSafe s.collections s.home) e.5 (read_safe s prefix place e.0 e.1 own e.2 (e.4 g))
+end_safe : (s : Setting) → s.guarded ≡ true → (prefix : Prefix) (place : Place) (end : End) → IsOwnPath s.collections s.home prefix place → EndsWith s place end → IsSideSafe s.collections s.home (leaf_read prefix end.0 end.1)
+end_safe s g prefix place end own (inl e) =
+    subst (λ x. IsSideSafe s.collections s.home (leaf_read prefix x.0 x.1)) e.2 (place, own, inl e.1)
+end_safe s g prefix place end own (inr e) =
+    subst (λ x. IsSideSafe s.collections s.home (leaf_read prefix x.0 x.1)) e.5 (read_safe s prefix place e.0 e.1 own e.2 (e.4 g))
 
 home_safe : (s : Setting) → s.guarded ≡ true → (parts : List Part) (l : Leaf) → along s [] (place_named s.collections s.home) (bare root.Home) parts ≡ Ok l → IsSideSafe s.collections s.home l
 home_safe s g parts l h =
     let e : Ends s (IsOwnPath s.collections s.home) l = home_ends s (IsOwnPath s.collections s.home) (own_on s g) (λ place there. (refl, place, there, refl)) parts l h in
-    end_safe s g e.0 e.1 l e.2 e.3
+    subst (IsSideSafe s.collections s.home) e.5 (end_safe s g e.0 e.1 e.2 e.3 e.4)
 
 macro_safe : (s : Setting) (part : Part) (parts : List Part) (l : Leaf) → of_macro s part parts ≡ Ok l → IsSideSafe s.collections s.home l
 unfolding of_macro
 macro_safe s part parts l h =
     let a = was_there (macro_named part.name) _ _ _ h in
     let b = both_ok (no_suffix s part) _ _ a.2 in
-    subst (IsSideSafe s.collections s.home) (alone_is (leaf.Macro a.0) parts l b.2) tt
+    subst (IsSideSafe s.collections s.home) (value_of (both_ok (no_part parts) _ _ b.2).2) tt
 
 -- behind `@` a client has macros alone
 by_first_safe : (s : Setting) (part : Part) (parts : List Part) (l : Leaf) (a b : Bool) → (a || b) ≡ false → cond a (of_request s part parts) (cond b (of_collection s part parts) (of_macro s part parts)) ≡ Ok l → IsSideSafe s.collections s.home l

@@ -1,5 +1,6 @@
 -- What holds of each side that resolves holds of all sides of a resolved filter.
-use Rattle.std.proofs.Common.{◌≡◌, ℕ, ◌+◌, Bool, false, List, [], ◌∷◌, ◌++◌, All, Result, Ok, refl, sym, ap, ◌∙◌, subst}
+use Rattle.std.proofs.Common.{◌≡◌, ℕ, ◌+◌, Bool, false, List, [], ◌∷◌, ◌++◌, All, Result, Ok, Err, refl, sym, ap, ◌∙◌, subst}
+use Rattle.std.specs.Result.{result_and}
 use Rattle.std.proofs.lemmas.List.Elements.{All-nil, All-cons, All-append}
 use Rattle.pocket_types.specs.Inductions.{expr_induction, resolved_test, resolved_and, resolved_or}
 use Rattle.pocket_types.specs.declared.expr.Expr.{Expr}
@@ -12,6 +13,8 @@ use Rattle.pocket_types.specs.declared.resolved.Resolved.{Resolved}
 use Rattle.pocket_types.specs.declared.resolved.Resolved.TheOpen as resolved
 use Rattle.pocket_types.specs.declared.resolved.Resolved.TheViews.{roll-Resolved}
 use Rattle.pocket_resolve.specs.declared.purpose.Purpose.{Purpose}
+use Rattle.pocket_types.specs.declared.faults.ResolveFault.TheVariants as fault
+use Rattle.pocket_resolve.specs.Answers.{Gives, refuse}
 use Rattle.pocket_resolve.specs.Filters.{Numbered, setting, test_from, filter_from, has_too_many, resolution}
 use Rattle.pocket_resolve.specs.Roots.{side}
 use Rattle.pocket_resolve.specs.Typing.{Side, sides_step, sides}
@@ -58,10 +61,11 @@ found_sides collections p P each =
     let y = both_ok (filter_from collections p b x.0.1) _ _ x.2 in
     joined_sides P x.0.0 y.0.0 (roll-Resolved (resolved.Or x.0.0 y.0.0)) y.0.1 found y.2 (sides_of_or x.0.0 y.0.0) (first n x.0 x.1) (second x.0.1 y.0 y.1))
 
--- a filter with few enough prefixes is the whole resolution
-pub is_resolution : (collections : List Collection) (p : Purpose) (e : Expr) (filter : Resolved) (n : ℕ) → filter_from collections p e 0 ≡ Ok (filter, n) → has_too_many filter ≡ false → resolution collections p e ≡ Ok filter
+-- a filter is the whole resolution, where it has few enough prefixes
+pub whole : (collections : List Collection) (p : Purpose) (e : Expr) (filter : Resolved) (n : ℕ) (few : Result (Unit {0}) ResolveFault) → filter_from collections p e 0 ≡ Ok (filter, n) → Gives few (refuse (has_too_many filter) fault.TooManyPrefixes) → Gives (result_and few (Ok filter)) (resolution collections p e)
 unfolding resolution
-is_resolution collections p e filter n found few = rw (found, few) refl
+whole collections p e filter n (Ok u) found is = rw (found, is) refl
+whole collections p e filter n (Err d) found is = λ h. rw (found, is h) refl
 
 -- all sides of what an expression resolves to have the property
 pub resolved_sides : (collections : List Collection) (p : Purpose) (P : Side → Type 0) → EachSide collections p P → (e : Expr) (filter : Resolved) → resolution collections p e ≡ Ok filter → All P (sides filter)

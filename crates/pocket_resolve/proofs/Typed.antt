@@ -24,11 +24,11 @@ use Rattle.pocket_resolve.specs.declared.purpose.Purpose.{Purpose}
 use Rattle.pocket_resolve.specs.Fields.{collection_named, field_named}
 use Rattle.pocket_resolve.specs.Filters.{home_of, setting, resolution}
 use Rattle.pocket_resolve.specs.Names.{is_built_in, requested_part, macro_named}
-use Rattle.pocket_resolve.specs.Paths.{Setting, Place, Of, Caller, place_named, field_at, no_suffix, reading_of, leaf_read, along}
-use Rattle.pocket_resolve.specs.Roots.{first_part, is_privileged, value_modifier, value_name, header, query, body_field, body_reading, body_leaf, sent_end, sent_on, sent_field, request_path, of_request, of_collection, of_macro, of_first, of_sign, of_path, side, bare}
+use Rattle.pocket_resolve.specs.Paths.{Setting, Place, Of, Caller, place_named, field_at, no_suffix, reading_of, leaf_read, End, along}
+use Rattle.pocket_resolve.specs.Roots.{first_part, no_part, is_privileged, value_modifier, value_name, header, query, body_field, body_reading, body_leaf, sent_end, sent_on, sent_field, request_path, of_request, of_collection, of_macro, of_first, of_sign, of_path, side, bare}
 use Rattle.pocket_resolve.specs.Typing.{IsRecordOf, Leads, StandsAt, fits, fits_sent, fits_text, IsSideTyped, IsTyped}
 use Rattle.pocket_resolve.proofs.Sides.{resolved_sides}
-use Rattle.pocket_resolve.proofs.Walks.{value_of, some_of, no_value, nothing, both_ok, was_there, was_let, collection_again, field_again, Reads, reads, EndsWith, Ends, IsKept, go_on, along_ends, home_ends, alone_is}
+use Rattle.pocket_resolve.proofs.Walks.{value_of, some_of, no_value, nothing, both_ok, was_there, was_let, collection_again, field_again, Reads, reads, EndsWith, Ends, IsKept, go_on, along_ends, home_ends}
 
 -- ---- paths
 
@@ -41,13 +41,14 @@ read_typed : (s : Setting) (prefix : Prefix) (place : Place) (f : Field) (r : Re
 read_typed s prefix place f (As m) stands found fitting = inr (place, stands, (f, found, fitting))
 read_typed s prefix place f Items stands found fitting = (prefix.steps, f.name, refl, inl (place, stands, (f, found, fitting)))
 
-end_typed : (s : Setting) (prefix : Prefix) (place : Place) (l : Leaf) → StandsAt s.collections s.home prefix place → EndsWith s place prefix l → IsSideTyped s.collections s.home s.any l
-end_typed s prefix place l stands (inl e) = subst (IsSideTyped s.collections s.home s.any) e.2 (inl (place, stands, e.1, refl))
-end_typed s prefix place l stands (inr e) =
-    subst (IsSideTyped s.collections s.home s.any) e.5 (read_typed s prefix place e.0 e.1 stands e.2 e.3)
+end_typed : (s : Setting) (prefix : Prefix) (place : Place) (end : End) → StandsAt s.collections s.home prefix place → EndsWith s place end → IsSideTyped s.collections s.home s.any (leaf_read prefix end.0 end.1)
+end_typed s prefix place end stands (inl e) =
+    subst (λ x. IsSideTyped s.collections s.home s.any (leaf_read prefix x.0 x.1)) e.2 (inl (place, stands, e.1, refl))
+end_typed s prefix place end stands (inr e) =
+    subst (λ x. IsSideTyped s.collections s.home s.any (leaf_read prefix x.0 x.1)) e.5 (read_typed s prefix place e.0 e.1 stands e.2 e.3)
 
 ends_typed : (s : Setting) (l : Leaf) → Ends s (StandsAt s.collections s.home) l → IsSideTyped s.collections s.home s.any l
-ends_typed s l e = end_typed s e.0 e.1 l e.2 e.3
+ends_typed s l e = subst (IsSideTyped s.collections s.home s.any) e.5 (end_typed s e.0 e.1 e.2 e.3 e.4)
 
 along_typed : (s : Setting) (behind : List ℕ) (place : Place) (prefix : Prefix) (parts : List Part) (l : Leaf) → StandsAt s.collections s.home prefix place → along s behind place prefix parts ≡ Ok l → IsSideTyped s.collections s.home s.any l
 along_typed s behind place prefix parts l stands h =
@@ -150,8 +151,8 @@ sent_typed s behind (part ∷ next ∷ parts) l h = absurd (sent_on_fails s part
 -- ---- beginnings
 
 request_typed : (which : Requested) (s : Setting) (behind : List ℕ) (parts : List Part) (l : Leaf) → request_path which s behind parts ≡ Ok l → IsSideTyped s.collections s.home s.any l
-request_typed requested.Context s behind parts l h = subst (IsSideTyped s.collections s.home s.any) (alone_is leaf.Context parts l h) tt
-request_typed requested.Method s behind parts l h = subst (IsSideTyped s.collections s.home s.any) (alone_is leaf.Method parts l h) tt
+request_typed requested.Context s behind parts l h = subst (IsSideTyped s.collections s.home s.any) (value_of (both_ok (no_part parts) _ _ h).2) tt
+request_typed requested.Method s behind parts l h = subst (IsSideTyped s.collections s.home s.any) (value_of (both_ok (no_part parts) _ _ h).2) tt
 request_typed requested.Headers s behind parts l h = header_typed s behind parts l h
 request_typed requested.Query s behind parts l h = query_typed s behind parts l h
 request_typed requested.Body s behind parts l h = sent_typed s behind parts l h
@@ -180,7 +181,7 @@ unfolding of_macro
 of_macro_typed s part parts l h =
     let a = was_there (macro_named part.name) _ _ _ h in
     let b = both_ok (no_suffix s part) _ _ a.2 in
-    subst (IsSideTyped s.collections s.home s.any) (alone_is (leaf.Macro a.0) parts l b.2) tt
+    subst (IsSideTyped s.collections s.home s.any) (value_of (both_ok (no_part parts) _ _ b.2).2) tt
 
 by_first_typed : (s : Setting) (part : Part) (parts : List Part) (l : Leaf) (a b : Bool) → cond a (of_request s part parts) (cond b (of_collection s part parts) (of_macro s part parts)) ≡ Ok l → IsSideTyped s.collections s.home s.any l
 by_first_typed s part parts l true b h = of_request_typed s part parts l h

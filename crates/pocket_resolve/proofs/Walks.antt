@@ -24,8 +24,8 @@ use Rattle.pocket_resolve.specs.declared.ends.Reading.TheVariants.{As, Items}
 use Rattle.pocket_resolve.specs.Answers.{◌>>=◌, or_fault, refuse}
 use Rattle.pocket_resolve.specs.Fields.{collection_named, field_named, auth_field, first, caller_field, has_letters, is_like}
 use Rattle.pocket_resolve.specs.Names.{is_built_in, cut_at_via}
-use Rattle.pocket_resolve.specs.Paths.{Setting, Place, Of, Caller, Nowhere, place_named, field_at, leads_to, max_steps, may_step, may_see, no_suffix, has_built_in, forward, back_relation, backward, one_step, only_if, reading_of, with_step, leaf_read, built_in_end, field_end, back_end, path_end, along}
-use Rattle.pocket_resolve.specs.Roots.{alone, bare}
+use Rattle.pocket_resolve.specs.Paths.{Setting, Place, Of, Caller, Nowhere, place_named, field_at, leads_to, max_steps, may_step, may_see, no_suffix, has_built_in, forward, back_relation, backward, one_step, only_if, reading_of, with_step, leaf_read, End, built_in_end, field_end, back_end, path_end, along}
+use Rattle.pocket_resolve.specs.Roots.{bare}
 use Rattle.pocket_resolve.specs.Safety.{LeadsShown}
 use Rattle.pocket_resolve.specs.Typing.{IsRecordOf, Leads, Along, fits}
 
@@ -244,41 +244,41 @@ unfolding reading_of
 reads any kind None r h = subst (Reads any kind) (some_of h) (bare_reads any kind (any && is_multiple kind) refl)
 reads any kind (Some suffix) r h = suffix_reads any kind r (bytes_eq suffix (codes "length")) (bytes_eq suffix (codes "each")) (bytes_eq suffix (codes "lower")) h
 
--- what stands at the end of a path: what every record has, plain, or a field, as it is read
-abbrev pub EndsWith : Setting → Place → Prefix → Leaf → Type 0
-EndsWith s place prefix l =
-    ((name : List ℕ) × (is_built_in name ≡ true) × (leaf.Of prefix name modifier.Plain ≡ l))
-    ⊎ ((f : Field) × (r : Reading) × (field_at s.collections place f.name ≡ Some f) × Reads s.any f.kind r × IsSeen s f × (leaf_read prefix f.name r ≡ l))
+-- what is known of the end of a path: it is what every record has, plain, or a field, as it is read
+abbrev pub EndsWith : Setting → Place → End → Type 0
+EndsWith s place end =
+    ((name : List ℕ) × (is_built_in name ≡ true) × ((name, As modifier.Plain) ≡ end))
+    ⊎ ((f : Field) × (r : Reading) × (field_at s.collections place f.name ≡ Some f) × Reads s.any f.kind r × IsSeen s f × ((f.name, r) ≡ end))
 
-field_ends : (s : Setting) (place : Place) (prefix : Prefix) (part : Part) (l : Leaf) → field_end s place prefix part ≡ Ok l → EndsWith s place prefix l
+field_ends : (s : Setting) (place : Place) (part : Part) (end : End) → field_end s place part ≡ Ok end → EndsWith s place end
 unfolding field_end
-field_ends s place prefix part l h =
+field_ends s place part end h =
     let a = was_there (field_at s.collections place part.name) _ _ _ h in
     let f : Field = a.0 in
     let b = was_there (reading_of s.any f.kind part.suffix) _ _ _ a.2 in
     let c = both_ok (may_see s f) _ _ b.2 in
     inr (f, b.0, field_again s.collections place part.name f a.1, reads s.any f.kind part.suffix b.0 b.1, seen s f c.0 c.1, value_of c.2)
 
-built_in_ends : (s : Setting) (place : Place) (prefix : Prefix) (part : Part) (l : Leaf) → is_built_in part.name ≡ true → built_in_end s prefix part ≡ Ok l → EndsWith s place prefix l
+built_in_ends : (s : Setting) (place : Place) (part : Part) (end : End) → is_built_in part.name ≡ true → built_in_end s part ≡ Ok end → EndsWith s place end
 unfolding built_in_end
-built_in_ends s place prefix part l is h =
+built_in_ends s place part end is h =
     let a = both_ok (no_suffix s part) _ _ h in
     inl (part.name, is, value_of a.2)
 
-back_fails : (s : Setting) (place : Place) (part : Part) (from name : List ℕ) (l : Leaf) → back_end s place part from name ≡ Ok l → ⊥
+back_fails : (s : Setting) (place : Place) (part : Part) (from name : List ℕ) (end : End) → back_end s place part from name ≡ Ok end → ⊥
 unfolding back_end
-back_fails s place part from name l h = no_value (both_ok (back_relation s place from name) _ _ h).2
+back_fails s place part from name end h = no_value (both_ok (back_relation s place from name) _ _ h).2
 
-either_ends : (s : Setting) (place : Place) (prefix : Prefix) (part : Part) (l : Leaf) (via : Option (List ℕ × List ℕ)) (b : Bool) → is_built_in part.name ≡ b → option_map_or (λ v. back_end s place part v.0 v.1) via (cond b (built_in_end s prefix part) (field_end s place prefix part)) ≡ Ok l → EndsWith s place prefix l
-either_ends s place prefix part l (Some v) b is h = absurd (back_fails s place part v.0 v.1 l h)
-either_ends s place prefix part l None true is h = built_in_ends s place prefix part l is h
-either_ends s place prefix part l None false is h = field_ends s place prefix part l h
+either_ends : (s : Setting) (place : Place) (part : Part) (end : End) (via : Option (List ℕ × List ℕ)) (b : Bool) → is_built_in part.name ≡ b → option_map_or (λ v. back_end s place part v.0 v.1) via (cond b (built_in_end s part) (field_end s place part)) ≡ Ok end → EndsWith s place end
+either_ends s place part end (Some v) b is h = absurd (back_fails s place part v.0 v.1 end h)
+either_ends s place part end None true is h = built_in_ends s place part end is h
+either_ends s place part end None false is h = field_ends s place part end h
 
-last_ends : (s : Setting) (place : Place) (prefix : Prefix) (part : Part) (l : Leaf) → path_end s place prefix part ≡ Ok l → EndsWith s place prefix l
+last_ends : (s : Setting) (place : Place) (part : Part) (end : End) → path_end s place part ≡ Ok end → EndsWith s place end
 unfolding path_end
-last_ends s (Of c) prefix part l h = either_ends s (Of c) prefix part l (cut_at_via part.name) (is_built_in part.name) refl h
-last_ends s Caller prefix part l h = either_ends s Caller prefix part l (cut_at_via part.name) (is_built_in part.name) refl h
-last_ends s Nowhere prefix part l h = absurd (no_value h)
+last_ends s (Of c) part end h = either_ends s (Of c) part end (cut_at_via part.name) (is_built_in part.name) refl h
+last_ends s Caller part end h = either_ends s Caller part end (cut_at_via part.name) (is_built_in part.name) refl h
+last_ends s Nowhere part end h = absurd (no_value h)
 
 -- ---- paths
 
@@ -300,12 +300,15 @@ IsKept s P = (prefix : Prefix) (place : Place) (taken : Step × Place) → P pre
 
 -- a path that resolves ends at a prefix and a place of which that still holds
 abbrev pub Ends : Setting → (Prefix → Place → Type 0) → Leaf → Type 0
-Ends s P l = (prefix : Prefix) × (place : Place) × P prefix place × EndsWith s place prefix l
+Ends s P l =
+    (prefix : Prefix) × (place : Place) × (end : End) × P prefix place × EndsWith s place end × (leaf_read prefix end.0 end.1 ≡ l)
 
 pub along_ends : (s : Setting) (P : Prefix → Place → Type 0) → IsKept s P → (behind : List ℕ) (place : Place) (prefix : Prefix) (parts : List Part) (l : Leaf) → P prefix place → along s behind place prefix parts ≡ Ok l → Ends s P l
 unfolding along
 along_ends s P keeps behind place prefix [] l here h = absurd (no_value h)
-along_ends s P keeps behind place prefix (part ∷ []) l here h = (prefix, place, here, last_ends s place prefix part l h)
+along_ends s P keeps behind place prefix (part ∷ []) l here h =
+    let a = both_ok (path_end s place part) _ _ h in
+    (prefix, place, a.0, here, last_ends s place part a.0 a.1, value_of a.2)
 along_ends s P keeps behind place prefix (part ∷ next ∷ parts) l here h =
     let a = both_ok (one_step s place (length prefix.steps) part) _ _ h in
     let on = with_step prefix a.0.0 in
@@ -322,8 +325,3 @@ home_ends s P keeps begins parts l h =
       | inl gone ↦ absurd (nowhere_fails s [] (bare root.Home) parts l (subst (λ p. along s [] p (bare root.Home) parts ≡ Ok l) gone h))
       | inr there ↦ along_ends s P keeps [] place (bare root.Home) parts l (begins place there) h
     ]
-
--- what has no names behind it is the whole path
-pub alone_is : (x : Leaf) (parts : List Part) (l : Leaf) → alone x parts ≡ Ok l → x ≡ l
-alone_is x [] l h = value_of h
-alone_is x (part ∷ parts) l h = absurd (no_value h)

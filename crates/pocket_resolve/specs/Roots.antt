@@ -37,10 +37,16 @@ abbrev pub first_part : List Part → Option (Part × List Part)
 first_part [] = None
 first_part (part ∷ parts) = Some (part, parts)
 
--- what has no names behind it: a part there is no field
+-- behind what has no names: a part there is no field
+abbrev pub no_part : List Part → Result (Unit {0}) ResolveFault
+no_part [] = Ok tt
+no_part (part ∷ parts) = Err (fault.NoField part.name)
+
+-- what has no names behind it
 abbrev pub alone : Leaf → List Part → Result Leaf ResolveFault
-alone leaf [] = Ok leaf
-alone leaf (part ∷ parts) = Err (fault.NoField part.name)
+alone leaf parts = do
+  _ ← no_part parts
+  Ok leaf
 
 -- ---- headers and the query
 

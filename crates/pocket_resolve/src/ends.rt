@@ -49,28 +49,6 @@ pub fn reading_of(any: bool, kind: &Kind, suffix: Option<&Text>) -> Option<Readi
     }
 }
 
-/// A prefix with one step more.
-pub fn with_step(mut prefix: Prefix, step: Step) -> Result<Prefix, AllocError>
-    ensures { IfOk result (λ longer. longer ≡ prefix_with prefix step) }
-{
-    prefix.steps.push(step)?;
-    Ok(prefix)
-}
-
-/// A field of the records of a prefix, as it is read.
-fn leaf_read(prefix: Prefix, name: Name, reading: Reading) -> Result<Leaf, AllocError>
-    ensures { IfOk result (λ leaf. leaf ≡ leaf_as_read prefix name reading) }
-{
-    match reading {
-        Reading::As(modifier) => Ok(Leaf::Of {
-            prefix,
-            field: name,
-            modifier,
-        }),
-        Reading::Items => Ok(Leaf::ItemOf(with_step(prefix, Step::Item(name))?)),
-    }
-}
-
 /// A name that every record has. Each of them is of a name's form, so that only memory can be wanting.
 fn name_read(alloc: Global, text: &str) -> Result<Name, ResolveFault>
     ensures { Gives result (Ok text.now) }
@@ -81,16 +59,15 @@ fn name_read(alloc: Global, text: &str) -> Result<Name, ResolveFault>
     }
 }
 
-/// A field at the end.
+/// A field at the end, and how it is read.
 #[tactic(auto, unfolding(crate::specs::Paths::field_end))]
 fn field_end(
     alloc: Global,
     setting: &Setting<'_>,
     place: Place<'_>,
-    prefix: Prefix,
     part: &Part,
-) -> Result<Leaf, ResolveFault>
-    ensures { Gives result (end_field (setting_of setting.now) (place_of place.entry) prefix part.now) }
+) -> Result<(Name, Reading), ResolveFault>
+    ensures { Gives result (end_field (setting_of setting.now) (place_of place.entry) part.now) }
 {
     let Some(field) = field_at(setting.collections, place, part.name.as_str()) else {
         return Err(no_field(alloc, part.name.as_str()));
@@ -99,7 +76,7 @@ fn field_end(
         return Err(ResolveFault::BadModifier(setting.operand));
     };
     may_see(alloc, setting, field)?;
-    Ok(leaf_read(prefix, field.name.clone()?, reading)?)
+    Ok((field.name.clone()?, reading))
 }
 
 /// A name that every record has, at the end.
@@ -107,17 +84,15 @@ fn field_end(
 fn built_in_end(
     alloc: Global,
     setting: &Setting<'_>,
-    prefix: Prefix,
     part: &Part,
-) -> Result<Leaf, ResolveFault>
-    ensures { Gives result (end_built_in (setting_of setting.now) prefix part.now) }
+) -> Result<(Name, Reading), ResolveFault>
+    ensures { Gives result (end_built_in (setting_of setting.now) part.now) }
 {
     no_suffix(setting, part)?;
-    Ok(Leaf::Of {
-        prefix,
-        field: name_read(alloc, part.name.as_str())?,
-        modifier: Modifier::Plain,
-    })
+    Ok((
+        name_read(alloc, part.name.as_str())?,
+        Reading::As(Modifier::Plain),
+    ))
 }
 
 /// A back relation at the end, where it is no field.
@@ -129,7 +104,7 @@ fn back_end(
     part: &Part,
     from: &str,
     name: &str,
-) -> Result<Leaf, ResolveFault>
+) -> Result<(Name, Reading), ResolveFault>
     ensures { Gives result (end_back (setting_of setting.now) (place_of place.entry) part.now from.now name.now) }
 {
     back_relation(alloc, setting, place, from, name)?;
@@ -142,10 +117,9 @@ pub fn path_end(
     alloc: Global,
     setting: &Setting<'_>,
     place: Place<'_>,
-    prefix: Prefix,
     part: &Part,
-) -> Result<Leaf, ResolveFault>
-    ensures { Gives result (end_of_path (setting_of setting.now) (place_of place.entry) prefix part.now) }
+) -> Result<(Name, Reading), ResolveFault>
+    ensures { Gives result (end_of_path (setting_of setting.now) (place_of place.entry) part.now) }
 {
     let name = part.name.as_str();
     if let Place::Nowhere = place {
@@ -153,7 +127,29 @@ pub fn path_end(
     }
     match cut_at_via(name) {
         Some((from, field)) => back_end(alloc, setting, place, part, from, field),
-        None if is_built_in(name) => built_in_end(alloc, setting, prefix, part),
-        None => field_end(alloc, setting, place, prefix, part),
+        None if is_built_in(name) => built_in_end(alloc, setting, part),
+        None => field_end(alloc, setting, place, part),
+    }
+}
+
+/// A prefix with one step more.
+fn with_step(mut prefix: Prefix, step: Step) -> Result<Prefix, AllocError>
+    ensures { IfOk result (λ longer. longer ≡ prefix_with prefix step) }
+{
+    prefix.steps.push(step)?;
+    Ok(prefix)
+}
+
+/// A field of the records of a prefix, as it is read.
+pub fn leaf_read(prefix: Prefix, name: Name, reading: Reading) -> Result<Leaf, AllocError>
+    ensures { IfOk result (λ leaf. leaf ≡ leaf_as_read prefix name reading) }
+{
+    match reading {
+        Reading::As(modifier) => Ok(Leaf::Of {
+            prefix,
+            field: name,
+            modifier,
+        }),
+        Reading::Items => Ok(Leaf::ItemOf(with_step(prefix, Step::Item(name))?)),
     }
 }

@@ -6,11 +6,12 @@ ghost use Rattle.pocket_resolve.specs.Filters.{home_of, is_guarded, setting, tes
 ghost use Rattle.pocket_resolve.specs.Roots.{side as side_leaf};
 ghost use Rattle.pocket_resolve.specs.Seen.{setting_of};
 
+use crate::answers::with;
 use crate::paths::side;
 use crate::places::Setting;
 use crate::purpose::Purpose;
 use pocket_types::{Boxed, Collection, Expr, Leaf, Name, Op, Operand, ResolveFault, Resolved};
-use std::alloc::{AllocError, Global};
+use std::alloc::Global;
 
 fn home(purpose: &Purpose) -> &Name
     ensures { result.now ≡ home_of purpose.now }
@@ -79,7 +80,8 @@ fn test_at(
     let second = after(first)?;
     let next = after(second)?;
     let left = side_at(alloc, collections, purpose, left, first, any)?;
-    let right = side_at(alloc, collections, purpose, right, second, any)?;
+    let right = side_at(alloc, collections, purpose, right, second, any);
+    let (left, right) = with(left, right)?;
     *number = next;
     Ok(Resolved::Test {
         left,
@@ -87,6 +89,19 @@ fn test_at(
         op,
         right,
     })
+}
+
+/// Two values in boxes, where the second one is there.
+fn boxed<A: Drop>(
+    alloc: Global,
+    a: A,
+    b: Result<A, ResolveFault>,
+) -> Result<(Boxed<A>, Boxed<A>), ResolveFault>
+    ensures { Gives result (made_of (λ y. (a, y)) b) }
+{
+    let a = Boxed::new(alloc, a)?;
+    let b = Boxed::new(alloc, b?)?;
+    Ok((a, b))
 }
 
 /// Both filters, where the second one is there.
@@ -97,7 +112,8 @@ fn both(
 ) -> Result<Resolved, ResolveFault>
     ensures { Gives result (made_of (made.And a) b) }
 {
-    Ok(Resolved::And(Boxed::new(alloc, a)?, Boxed::new(alloc, b?)?))
+    let (a, b) = boxed(alloc, a, b)?;
+    Ok(Resolved::And(a, b))
 }
 
 /// One of the filters, where the second one is there.
@@ -108,7 +124,8 @@ fn either(
 ) -> Result<Resolved, ResolveFault>
     ensures { Gives result (made_of (made.Or a) b) }
 {
-    Ok(Resolved::Or(Boxed::new(alloc, a)?, Boxed::new(alloc, b?)?))
+    let (a, b) = boxed(alloc, a, b)?;
+    Ok(Resolved::Or(a, b))
 }
 
 /// An expression whose first operand has a number, which becomes that of the next operand.

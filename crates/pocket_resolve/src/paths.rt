@@ -1,39 +1,41 @@
 // Whole paths: how they begin, and where they lead.
 ghost use Rattle.std.specs.Prelude.{◌≡◌, IfOk, [], unwrap_or};
 ghost use Rattle.std.specs.Option.{option_copied};
-ghost use Rattle.pocket_resolve.specs.Answers.{Gives};
-ghost use Rattle.pocket_resolve.specs.Paths.{along as along_path};
-ghost use Rattle.pocket_resolve.specs.Roots.{alone as alone_leaf, of_request as request_leaf, of_collection as collection_leaf, of_macro as macro_leaf, is_privileged as privileged, of_first as first_leaf, of_sign as sign_leaf, of_path as path_leaf, request_path as requested_leaf, bare as bare_prefix, side as side_leaf};
+ghost use Rattle.pocket_types.specs.declared.resolved.Root.TheVariants as root;
+ghost use Rattle.pocket_resolve.specs.Answers.{Gives, GivesAs};
+ghost use Rattle.pocket_resolve.specs.Paths.{along as along_path, leaf_read as leaf_as_read};
+ghost use Rattle.pocket_resolve.specs.Roots.{no_part as no_part_behind, of_request as request_leaf, of_collection as collection_leaf, of_macro as macro_leaf, is_privileged as privileged, of_first as first_leaf, of_sign as sign_leaf, of_path as path_leaf, request_path as requested_leaf, bare as bare_prefix, side as side_leaf};
 ghost use Rattle.pocket_resolve.specs.Seen.{setting_of, place_of};
 
-use crate::ends::{path_end, with_step};
+use crate::answers::with;
+use crate::ends::{Reading, leaf_read, path_end};
 use crate::faults::{no_collection, no_field};
 use crate::fields::collection_named;
 use crate::names::{Requested, macro_named, requested_part};
 use crate::places::{Place, Setting, place_named};
 use crate::sent::{header, query, sent_field};
 use crate::steps::{no_suffix, one_step};
-use pocket_types::{Leaf, Operand, Part, Prefix, ResolveFault, Root, Seq, Text, Value};
+use pocket_types::{Leaf, Name, Operand, Part, Prefix, ResolveFault, Root, Seq, Text, Value};
 use std::alloc::{AllocError, Global};
 
-/// A path from a place on, behind the part of a name.
+/// The end of a path from a place on, behind the part of a name. The prefix takes the steps that lead there.
 #[tactic(auto, unfolding(crate::specs::Paths::along))]
 fn along<'a>(
     alloc: Global,
     setting: &Setting<'a>,
     behind: &str,
     place: Place<'a>,
-    prefix: Prefix,
+    prefix: &mut Prefix,
     parts: &[Part],
-) -> Result<Leaf, ResolveFault>
-    ensures { Gives result (along_path (setting_of setting.now) behind.now (place_of place.entry) prefix parts.now) }
+) -> Result<(Name, Reading), ResolveFault>
+    ensures { GivesAs (λ end. leaf_as_read prefix.new end.0 end.1) result (along_path (setting_of setting.now) behind.now (place_of place.entry) prefix.old parts.now) }
 {
     match parts {
         [] => Err(no_field(alloc, behind)),
-        [last] => path_end(alloc, setting, place, prefix, last),
+        [last] => path_end(alloc, setting, place, last),
         [part, rest @ ..] => {
             let (step, next) = one_step(alloc, setting, place, prefix.steps.len(), part)?;
-            let prefix = with_step(prefix, step)?;
+            prefix.steps.push(step)?;
             along(alloc, setting, part.name.as_str(), next, prefix, rest)
         }
     }
@@ -49,12 +51,29 @@ fn bare(alloc: Global, root: Root) -> Prefix
     }
 }
 
-/// What has no names behind it.
-fn alone(alloc: Global, leaf: Leaf, parts: &[Part]) -> Result<Leaf, ResolveFault>
-    ensures { Gives result (alone_leaf leaf parts.now) }
+/// A path from a root.
+fn path_from<'a>(
+    alloc: Global,
+    setting: &Setting<'a>,
+    root: Root,
+    behind: &str,
+    place: Place<'a>,
+    parts: &[Part],
+) -> Result<Leaf, ResolveFault>
+    ensures { Gives result (along_path (setting_of setting.now) behind.now (place_of place.entry) (bare_prefix root) parts.now) }
+{
+    let mut prefix = bare(alloc, root);
+    let end = along(alloc, setting, behind, place, &mut prefix, parts);
+    let (prefix, (name, reading)) = with(prefix, end)?;
+    Ok(leaf_read(prefix, name, reading)?)
+}
+
+/// Nothing stands behind what has no names.
+fn no_part(alloc: Global, parts: &[Part]) -> Result<(), ResolveFault>
+    ensures { Gives result (no_part_behind parts.now) }
 {
     match parts {
-        [] => Ok(leaf),
+        [] => Ok(()),
         [part, ..] => Err(no_field(alloc, part.name.as_str())),
     }
 }
@@ -70,15 +89,18 @@ fn request_path(
     ensures { Gives result (requested_leaf which (setting_of setting.now) behind.now parts.now) }
 {
     match which {
-        Requested::Context => alone(alloc, Leaf::Context, parts),
-        Requested::Method => alone(alloc, Leaf::Method, parts),
+        Requested::Context => {
+            no_part(alloc, parts)?;
+            Ok(Leaf::Context)
+        }
+        Requested::Method => {
+            no_part(alloc, parts)?;
+            Ok(Leaf::Method)
+        }
         Requested::Headers => header(alloc, setting, behind, parts),
         Requested::Query => query(alloc, setting, behind, parts),
         Requested::Body => sent_field(alloc, setting, behind, parts),
-        Requested::Auth => {
-            let prefix = bare(alloc, Root::Auth);
-            along(alloc, setting, behind, Place::Caller, prefix, parts)
-        }
+        Requested::Auth => path_from(alloc, setting, Root::Auth, behind, Place::Caller, parts),
     }
 }
 
@@ -114,6 +136,14 @@ fn alias(alloc: Global, suffix: Option<&Text>) -> Result<Text, AllocError>
     }
 }
 
+/// The root of a look-up into a collection, under an alias.
+fn look(alloc: Global, name: &Name, suffix: Option<&Text>) -> Result<Root, AllocError>
+    ensures { IfOk result (λ found. found ≡ root.Look name.now (unwrap_or (option_copied suffix.entry) [])) }
+{
+    let (alias, name) = with(alias(alloc, suffix)?, name.clone())?;
+    Ok(Root::Look(name, alias))
+}
+
 /// `@collection` and the parts behind it.
 #[tactic(auto, unfolding(crate::specs::Roots::of_collection))]
 fn of_collection(
@@ -132,9 +162,8 @@ fn of_collection(
     let Some(collection) = collection_named(setting.collections, name) else {
         return Err(no_collection(alloc, name));
     };
-    let alias = alias(alloc, second.suffix.as_ref())?;
-    let prefix = bare(alloc, Root::Look(collection.name.clone()?, alias));
-    along(alloc, setting, name, Place::Of(collection), prefix, rest)
+    let root = look(alloc, &collection.name, second.suffix.as_ref())?;
+    path_from(alloc, setting, root, name, Place::Of(collection), rest)
 }
 
 /// A macro.
@@ -151,7 +180,8 @@ fn of_macro(
         return Err(no_field(alloc, first.name.as_str()));
     };
     no_suffix(setting, first)?;
-    alone(alloc, Leaf::Macro(which), parts)
+    no_part(alloc, parts)?;
+    Ok(Leaf::Macro(which))
 }
 
 /// Whether a path with `@` begins with `request` or `collection`.
@@ -207,8 +237,7 @@ fn of_path(
 {
     if !sign {
         let home = place_named(setting.collections, setting.home.as_str());
-        let prefix = bare(alloc, Root::Home);
-        return along(alloc, setting, "", home, prefix, parts);
+        return path_from(alloc, setting, Root::Home, "", home, parts);
     }
     if setting.guarded && is_privileged(parts) {
         return Err(ResolveFault::SuperuserOnly(setting.operand));

@@ -1,9 +1,11 @@
 // How many different prefixes a filter has.
 ghost use Rattle.std.specs.Prelude.{◌≡◌, ◌≤◌, IfOk, length, fold, flat_map, count_by};
 ghost use Rattle.pocket_types.specs.Paths.{with_prefix, begun};
+ghost use Rattle.pocket_types.specs.declared.faults.ResolveFault.TheVariants as fault;
+ghost use Rattle.pocket_resolve.specs.Answers.{Gives, refuse};
 ghost use Rattle.pocket_resolve.specs.Filters.{filter_prefixes, is_counted as counted, has_too_many as too_many};
 
-use pocket_types::{Prefix, Resolved, Root};
+use pocket_types::{Prefix, ResolveFault, Resolved, Root};
 use std::alloc::{AllocError, Global};
 
 const MAX_PREFIXES: usize = 12;
@@ -51,11 +53,14 @@ fn add_prefixes(found: &mut Vec<Prefix>, filter: &Resolved) -> Result<(), AllocE
     }
 }
 
-/// Whether a filter has too many different prefixes.
-pub fn has_too_many(alloc: Global, filter: &Resolved) -> Result<bool, AllocError>
-    ensures { IfOk result (λ b. b ≡ too_many filter.now) }
+/// Refuses a filter with too many different prefixes.
+pub fn few_prefixes(alloc: Global, filter: &Resolved) -> Result<(), ResolveFault>
+    ensures { Gives result (refuse (too_many filter.now) fault.TooManyPrefixes) }
 {
     let mut found = Vec::new(alloc);
     add_prefixes(&mut found, filter)?;
-    Ok(count(found.as_slice()) > MAX_PREFIXES)
+    if count(found.as_slice()) > MAX_PREFIXES {
+        return Err(ResolveFault::TooManyPrefixes);
+    }
+    Ok(())
 }

@@ -5,7 +5,7 @@ ghost use Rattle.pocket_resolve.specs.Safety.{IsSafe};
 ghost use Rattle.pocket_resolve.specs.Typing.{IsTyped};
 
 use crate::filters::filter_at;
-use crate::prefixes::has_too_many;
+use crate::prefixes::few_prefixes;
 use crate::purpose::Purpose;
 use pocket_types::{Collection, Expr, ResolveFault, Resolved};
 use std::alloc::Global;
@@ -33,8 +33,5 @@ pub fn resolve(
 {
     let mut number = 0;
     let filter = filter_at(alloc, collections, purpose, expr, &mut number)?;
-    if has_too_many(alloc, &filter)? {
-        return Err(ResolveFault::TooManyPrefixes);
-    }
-    Ok(filter)
+    few_prefixes(alloc, &filter).and(Ok(filter))
 }
