@@ -5,3 +5,4 @@ pub mod Walks
 pub mod Sides
 pub mod Typed
 pub mod Safe
+pub mod BuiltIns

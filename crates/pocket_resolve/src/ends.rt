@@ -1,8 +1,9 @@
 // The last part of a path: a field, as it is read.
-ghost use Rattle.std.specs.Prelude.{◌≡◌, IfOk, Ok};
+ghost use Rattle.std.specs.Prelude.{◌≡◌, true, IfOk, Ok};
 ghost use Rattle.std.specs.Option.{option_copied};
 ghost use Rattle.pocket_resolve.specs.Answers.{Gives};
-ghost use Rattle.pocket_resolve.specs.Paths.{only_if as only_when, reading_of as reading_under, leaf_read as leaf_as_read, with_step as prefix_with, built_in_end as end_built_in, field_end as end_field, back_end as end_back, path_end as end_of_path};
+ghost use Rattle.pocket_resolve.specs.Names as names;
+ghost use Rattle.pocket_resolve.specs.Paths as paths;
 ghost use Rattle.pocket_resolve.specs.Seen.{setting_of, place_of};
 
 use crate::faults::no_field;
@@ -23,7 +24,7 @@ pub enum Reading {
 }
 
 fn only_if(holds: bool, reading: Reading) -> Option<Reading>
-    ensures { result ≡ only_when holds reading }
+    ensures { result ≡ paths.only_if holds reading }
 {
     if holds { Some(reading) } else { None }
 }
@@ -31,7 +32,7 @@ fn only_if(holds: bool, reading: Reading) -> Option<Reading>
 /// The reading of a field of a kind under a suffix.
 #[tactic(auto, unfolding(crate::specs::Paths::reading_of))]
 pub fn reading_of(any: bool, kind: &Kind, suffix: Option<&Text>) -> Option<Reading>
-    ensures { result ≡ reading_under any kind.now (option_copied suffix.entry) }
+    ensures { result ≡ paths.reading_of any kind.now (option_copied suffix.entry) }
 {
     let multiple = kind.is_multiple();
     let Some(suffix) = suffix else {
@@ -49,13 +50,16 @@ pub fn reading_of(any: bool, kind: &Kind, suffix: Option<&Text>) -> Option<Readi
     }
 }
 
-/// A name that every record has. Each of them is of a name's form, so that only memory can be wanting.
-fn name_read(alloc: Global, text: &str) -> Result<Name, ResolveFault>
+/// A name that every record has. Each of them is of a name's form.
+#[tactic(auto, using(crate::proofs::BuiltIns::built_in_is_name))]
+fn built_in_name(alloc: Global, text: &str) -> Result<Name, ResolveFault>
+    requires { names.is_built_in text.now ≡ true }
     ensures { Gives result (Ok text.now) }
 {
     match Name::read(alloc, text) {
         Ok(name) => Ok(name),
-        Err(NameFault::BadName | NameFault::Memory) => Err(ResolveFault::Memory),
+        Err(NameFault::BadName) => unreachable!(),
+        Err(NameFault::Memory) => Err(ResolveFault::Memory),
     }
 }
 
@@ -67,7 +71,7 @@ fn field_end(
     place: Place<'_>,
     part: &Part,
 ) -> Result<(Name, Reading), ResolveFault>
-    ensures { Gives result (end_field (setting_of setting.now) (place_of place.entry) part.now) }
+    ensures { Gives result (paths.field_end (setting_of setting.now) (place_of place.entry) part.now) }
 {
     let Some(field) = field_at(setting.collections, place, part.name.as_str()) else {
         return Err(no_field(alloc, part.name.as_str()));
@@ -86,11 +90,12 @@ fn built_in_end(
     setting: &Setting<'_>,
     part: &Part,
 ) -> Result<(Name, Reading), ResolveFault>
-    ensures { Gives result (end_built_in (setting_of setting.now) part.now) }
+    requires { names.is_built_in part.now.name ≡ true }
+    ensures { Gives result (paths.built_in_end (setting_of setting.now) part.now) }
 {
     no_suffix(setting, part)?;
     Ok((
-        name_read(alloc, part.name.as_str())?,
+        built_in_name(alloc, part.name.as_str())?,
         Reading::As(Modifier::Plain),
     ))
 }
@@ -105,7 +110,7 @@ fn back_end(
     from: &str,
     name: &str,
 ) -> Result<(Name, Reading), ResolveFault>
-    ensures { Gives result (end_back (setting_of setting.now) (place_of place.entry) part.now from.now name.now) }
+    ensures { Gives result (paths.back_end (setting_of setting.now) (place_of place.entry) part.now from.now name.now) }
 {
     back_relation(alloc, setting, place, from, name)?;
     Err(no_field(alloc, part.name.as_str()))
@@ -119,7 +124,7 @@ pub fn path_end(
     place: Place<'_>,
     part: &Part,
 ) -> Result<(Name, Reading), ResolveFault>
-    ensures { Gives result (end_of_path (setting_of setting.now) (place_of place.entry) part.now) }
+    ensures { Gives result (paths.path_end (setting_of setting.now) (place_of place.entry) part.now) }
 {
     let name = part.name.as_str();
     if let Place::Nowhere = place {
@@ -134,7 +139,7 @@ pub fn path_end(
 
 /// A prefix with one step more.
 fn with_step(mut prefix: Prefix, step: Step) -> Result<Prefix, AllocError>
-    ensures { IfOk result (λ longer. longer ≡ prefix_with prefix step) }
+    ensures { IfOk result (λ longer. longer ≡ paths.with_step prefix step) }
 {
     prefix.steps.push(step)?;
     Ok(prefix)
@@ -142,7 +147,7 @@ fn with_step(mut prefix: Prefix, step: Step) -> Result<Prefix, AllocError>
 
 /// A field of the records of a prefix, as it is read.
 pub fn leaf_read(prefix: Prefix, name: Name, reading: Reading) -> Result<Leaf, AllocError>
-    ensures { IfOk result (λ leaf. leaf ≡ leaf_as_read prefix name reading) }
+    ensures { IfOk result (λ leaf. leaf ≡ paths.leaf_read prefix name reading) }
 {
     match reading {
         Reading::As(modifier) => Ok(Leaf::Of {

@@ -3,7 +3,7 @@ ghost use Rattle.std.specs.Prelude.{◌≡◌, ◌+◌, Ok, IfOk};
 ghost use Rattle.pocket_types.specs.declared.resolved.Resolved.TheVariants as made;
 ghost use Rattle.pocket_resolve.specs.Answers.{made_of, Gives, GivesAs};
 ghost use Rattle.pocket_resolve.specs.Filters.{home_of, is_guarded, setting, test_from, filter_from};
-ghost use Rattle.pocket_resolve.specs.Roots.{side as side_leaf};
+ghost use Rattle.pocket_resolve.specs.Roots as roots;
 ghost use Rattle.pocket_resolve.specs.Seen.{setting_of};
 
 use crate::answers::with;
@@ -40,7 +40,7 @@ fn side_at(
     number: u32,
     any: bool,
 ) -> Result<Leaf, ResolveFault>
-    ensures { Gives result (side_leaf (setting collections.now purpose.now number any) operand.now) }
+    ensures { Gives result (roots.side (setting collections.now purpose.now number any) operand.now) }
 {
     let setting = Setting {
         collections,

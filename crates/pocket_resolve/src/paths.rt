@@ -3,8 +3,8 @@ ghost use Rattle.std.specs.Prelude.{◌≡◌, IfOk, [], unwrap_or};
 ghost use Rattle.std.specs.Option.{option_copied};
 ghost use Rattle.pocket_types.specs.declared.resolved.Root.TheVariants as root;
 ghost use Rattle.pocket_resolve.specs.Answers.{Gives, GivesAs};
-ghost use Rattle.pocket_resolve.specs.Paths.{along as along_path, leaf_read as leaf_as_read};
-ghost use Rattle.pocket_resolve.specs.Roots.{no_part as no_part_behind, of_request as request_leaf, of_collection as collection_leaf, of_macro as macro_leaf, is_privileged as privileged, of_first as first_leaf, of_sign as sign_leaf, of_path as path_leaf, request_path as requested_leaf, bare as bare_prefix, side as side_leaf};
+ghost use Rattle.pocket_resolve.specs.Paths as paths;
+ghost use Rattle.pocket_resolve.specs.Roots as roots;
 ghost use Rattle.pocket_resolve.specs.Seen.{setting_of, place_of};
 
 use crate::answers::with;
@@ -28,7 +28,7 @@ fn along<'a>(
     prefix: &mut Prefix,
     parts: &[Part],
 ) -> Result<(Name, Reading), ResolveFault>
-    ensures { GivesAs (λ end. leaf_as_read prefix.new end.0 end.1) result (along_path (setting_of setting.now) behind.now (place_of place.entry) prefix.old parts.now) }
+    ensures { GivesAs (λ end. paths.leaf_read prefix.new end.0 end.1) result (paths.along (setting_of setting.now) behind.now (place_of place.entry) prefix.old parts.now) }
 {
     match parts {
         [] => Err(no_field(alloc, behind)),
@@ -43,7 +43,7 @@ fn along<'a>(
 
 /// A prefix without steps.
 fn bare(alloc: Global, root: Root) -> Prefix
-    ensures { result ≡ bare_prefix root }
+    ensures { result ≡ roots.bare root }
 {
     Prefix {
         root,
@@ -60,7 +60,7 @@ fn path_from<'a>(
     place: Place<'a>,
     parts: &[Part],
 ) -> Result<Leaf, ResolveFault>
-    ensures { Gives result (along_path (setting_of setting.now) behind.now (place_of place.entry) (bare_prefix root) parts.now) }
+    ensures { Gives result (paths.along (setting_of setting.now) behind.now (place_of place.entry) (roots.bare root) parts.now) }
 {
     let mut prefix = bare(alloc, root);
     let end = along(alloc, setting, behind, place, &mut prefix, parts);
@@ -70,7 +70,7 @@ fn path_from<'a>(
 
 /// Nothing stands behind what has no names.
 fn no_part(alloc: Global, parts: &[Part]) -> Result<(), ResolveFault>
-    ensures { Gives result (no_part_behind parts.now) }
+    ensures { Gives result (roots.no_part parts.now) }
 {
     match parts {
         [] => Ok(()),
@@ -86,7 +86,7 @@ fn request_path(
     behind: &str,
     parts: &[Part],
 ) -> Result<Leaf, ResolveFault>
-    ensures { Gives result (requested_leaf which (setting_of setting.now) behind.now parts.now) }
+    ensures { Gives result (roots.request_path which (setting_of setting.now) behind.now parts.now) }
 {
     match which {
         Requested::Context => {
@@ -112,7 +112,7 @@ fn of_request(
     first: &Part,
     parts: &[Part],
 ) -> Result<Leaf, ResolveFault>
-    ensures { Gives result (request_leaf (setting_of setting.now) first.now parts.now) }
+    ensures { Gives result (roots.of_request (setting_of setting.now) first.now parts.now) }
 {
     no_suffix(setting, first)?;
     let [second, rest @ ..] = parts else {
@@ -152,7 +152,7 @@ fn of_collection(
     first: &Part,
     parts: &[Part],
 ) -> Result<Leaf, ResolveFault>
-    ensures { Gives result (collection_leaf (setting_of setting.now) first.now parts.now) }
+    ensures { Gives result (roots.of_collection (setting_of setting.now) first.now parts.now) }
 {
     no_suffix(setting, first)?;
     let [second, rest @ ..] = parts else {
@@ -174,7 +174,7 @@ fn of_macro(
     first: &Part,
     parts: &[Part],
 ) -> Result<Leaf, ResolveFault>
-    ensures { Gives result (macro_leaf (setting_of setting.now) first.now parts.now) }
+    ensures { Gives result (roots.of_macro (setting_of setting.now) first.now parts.now) }
 {
     let Some(which) = macro_named(first.name.as_str()) else {
         return Err(no_field(alloc, first.name.as_str()));
@@ -186,7 +186,7 @@ fn of_macro(
 
 /// Whether a path with `@` begins with `request` or `collection`.
 fn is_privileged(parts: &[Part]) -> bool
-    ensures { result ≡ privileged parts.now }
+    ensures { result ≡ roots.is_privileged parts.now }
 {
     match parts {
         [] => false,
@@ -202,7 +202,7 @@ fn of_first(
     first: &Part,
     parts: &[Part],
 ) -> Result<Leaf, ResolveFault>
-    ensures { Gives result (first_leaf (setting_of setting.now) first.now parts.now) }
+    ensures { Gives result (roots.of_first (setting_of setting.now) first.now parts.now) }
 {
     let name = first.name.as_str();
     if name == "request" {
@@ -217,7 +217,7 @@ fn of_first(
 /// A path behind `@`.
 #[tactic(auto, unfolding(crate::specs::Roots::of_sign))]
 fn of_sign(alloc: Global, setting: &Setting<'_>, parts: &[Part]) -> Result<Leaf, ResolveFault>
-    ensures { Gives result (sign_leaf (setting_of setting.now) parts.now) }
+    ensures { Gives result (roots.of_sign (setting_of setting.now) parts.now) }
 {
     match parts {
         [] => Err(no_field(alloc, "")),
@@ -233,7 +233,7 @@ fn of_path(
     sign: bool,
     parts: &[Part],
 ) -> Result<Leaf, ResolveFault>
-    ensures { Gives result (path_leaf (setting_of setting.now) sign parts.now) }
+    ensures { Gives result (roots.of_path (setting_of setting.now) sign parts.now) }
 {
     if !sign {
         let home = place_named(setting.collections, setting.home.as_str());
@@ -248,7 +248,7 @@ fn of_path(
 /// One side of a comparison.
 #[tactic(auto, unfolding(crate::specs::Roots::side))]
 pub fn side(alloc: Global, setting: &Setting<'_>, operand: &Operand) -> Result<Leaf, ResolveFault>
-    ensures { Gives result (side_leaf (setting_of setting.now) operand.now) }
+    ensures { Gives result (roots.side (setting_of setting.now) operand.now) }
 {
     match operand {
         Operand::Ident { sign, parts } => of_path(alloc, setting, *sign, parts.as_slice()),

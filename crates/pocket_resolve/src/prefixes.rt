@@ -3,7 +3,7 @@ ghost use Rattle.std.specs.Prelude.{◌≡◌, ◌≤◌, IfOk, length, fold, fl
 ghost use Rattle.pocket_types.specs.Paths.{with_prefix, begun};
 ghost use Rattle.pocket_types.specs.declared.faults.ResolveFault.TheVariants as fault;
 ghost use Rattle.pocket_resolve.specs.Answers.{Gives, refuse};
-ghost use Rattle.pocket_resolve.specs.Filters.{filter_prefixes, is_counted as counted, has_too_many as too_many};
+ghost use Rattle.pocket_resolve.specs.Filters as filters;
 
 use pocket_types::{Prefix, ResolveFault, Resolved, Root};
 use std::alloc::{AllocError, Global};
@@ -12,7 +12,7 @@ const MAX_PREFIXES: usize = 12;
 
 /// Whether a prefix counts: the record itself, the caller's record and the body don't.
 fn is_counted(prefix: &Prefix) -> bool
-    ensures { result ≡ counted prefix.now }
+    ensures { result ≡ filters.is_counted prefix.now }
 {
     match prefix.root {
         Root::Look(..) => true,
@@ -21,7 +21,7 @@ fn is_counted(prefix: &Prefix) -> bool
 }
 
 fn count(prefixes: &[Prefix]) -> usize
-    ensures value { result ≡ count_by counted prefixes.now }
+    ensures value { result ≡ count_by filters.is_counted prefixes.now }
     ensures within { result ≤ length prefixes.now }
 {
     match prefixes {
@@ -39,7 +39,7 @@ fn count(prefixes: &[Prefix]) -> usize
 
 /// Adds the prefixes of a filter's sides to those that were found.
 fn add_prefixes(found: &mut Vec<Prefix>, filter: &Resolved) -> Result<(), AllocError>
-    ensures { IfOk result (λ _. found.new.items ≡ fold with_prefix found.old.items (flat_map begun (filter_prefixes filter.now))) }
+    ensures { IfOk result (λ _. found.new.items ≡ fold with_prefix found.old.items (flat_map begun (filters.filter_prefixes filter.now))) }
 {
     match filter {
         Resolved::Test { left, right, .. } => {
@@ -55,7 +55,7 @@ fn add_prefixes(found: &mut Vec<Prefix>, filter: &Resolved) -> Result<(), AllocE
 
 /// Refuses a filter with too many different prefixes.
 pub fn few_prefixes(alloc: Global, filter: &Resolved) -> Result<(), ResolveFault>
-    ensures { Gives result (refuse (too_many filter.now) fault.TooManyPrefixes) }
+    ensures { Gives result (refuse (filters.has_too_many filter.now) fault.TooManyPrefixes) }
 {
     let mut found = Vec::new(alloc);
     add_prefixes(&mut found, filter)?;
