@@ -1,5 +1,5 @@
 -- Every filter that is resolved for a client is safe.
-use Rattle.std.proofs.Common.{◌≡◌, ◌⊎◌, inl, inr, ℕ, Bool, true, false, ◌&&◌, ◌||◌, cond, List, [], ◌∷◌, Option, Some, Result, Ok, codes, bytes_eq, refl, subst}
+use Rattle.std.proofs.Common.{◌≡◌, inl, inr, Bool, true, false, ◌&&◌, ◌||◌, cond, List, [], ◌∷◌, Some, Ok, codes, bytes_eq, refl, subst}
 use Rattle.pocket_types.specs.declared.expr.Expr.{Expr}
 use Rattle.pocket_types.specs.declared.expr.Operand.{Operand}
 use Rattle.pocket_types.specs.declared.expr.Operand.TheVariants as operand
@@ -7,7 +7,6 @@ use Rattle.pocket_types.specs.declared.expr.Part.{Part}
 use Rattle.pocket_types.specs.declared.records.Collection.{Collection}
 use Rattle.pocket_types.specs.declared.records.Field.{Field}
 use Rattle.pocket_types.specs.declared.resolved.Leaf.{Leaf}
-use Rattle.pocket_types.specs.declared.resolved.Leaf.TheVariants as leaf
 use Rattle.pocket_types.specs.declared.resolved.Prefix.{Prefix}
 use Rattle.pocket_types.specs.declared.resolved.Resolved.{Resolved}
 use Rattle.pocket_types.specs.declared.resolved.Root.TheVariants as root
@@ -19,7 +18,6 @@ use Rattle.pocket_resolve.specs.Names.{macro_named}
 use Rattle.pocket_resolve.specs.Paths.{Setting, Place, field_at, place_named, leaf_read, End, no_suffix, along}
 use Rattle.pocket_resolve.specs.Roots.{no_part, is_privileged, of_request, of_collection, of_macro, of_first, of_sign, of_path, side, bare}
 use Rattle.pocket_resolve.specs.Safety.{LeadsShown, IsOwnPath, IsSideSafe, IsSafe}
-use Rattle.pocket_resolve.specs.Typing.{IsRecordOf}
 use Rattle.pocket_resolve.proofs.Sides.{resolved_sides}
 use Rattle.pocket_resolve.proofs.Walks.{value_of, no_value, both_ok, was_there, was_let, second_fails, EndsWith, Ends, IsKept, go_on, home_ends}
 

@@ -1,5 +1,5 @@
 -- Every filter that is resolved is typed.
-use Rattle.std.proofs.Common.{◌≡◌, ◌⊎◌, inl, inr, ℕ, Bool, true, false, ◌&&◌, cond, List, [], ◌∷◌, Option, Some, None, Result, Ok, Err, codes, bytes_eq, refl, subst}
+use Rattle.std.proofs.Common.{◌≡◌, inl, inr, ℕ, Bool, true, false, ◌&&◌, cond, List, [], ◌∷◌, Option, Some, None, Ok, codes, bytes_eq, refl, subst}
 use Rattle.std.specs.Prelude.{option_and_then, unwrap_or}
 use Rattle.pocket_types.specs.Kinds.{is_multiple, target_of}
 use Rattle.pocket_types.specs.declared.expr.Expr.{Expr}
@@ -10,7 +10,6 @@ use Rattle.pocket_types.specs.declared.records.Collection.{Collection}
 use Rattle.pocket_types.specs.declared.records.Field.{Field}
 use Rattle.pocket_types.specs.declared.records.Kind.{Kind}
 use Rattle.pocket_types.specs.declared.resolved.Leaf.{Leaf}
-use Rattle.pocket_types.specs.declared.resolved.Leaf.TheVariants as leaf
 use Rattle.pocket_types.specs.declared.resolved.Modifier.{Modifier}
 use Rattle.pocket_types.specs.declared.resolved.Modifier.TheVariants as modifier
 use Rattle.pocket_types.specs.declared.resolved.Prefix.{Prefix}

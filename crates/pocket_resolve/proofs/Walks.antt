@@ -13,7 +13,6 @@ use Rattle.pocket_types.specs.declared.records.Collection.{Collection}
 use Rattle.pocket_types.specs.declared.records.Field.{Field}
 use Rattle.pocket_types.specs.declared.records.Kind.{Kind}
 use Rattle.pocket_types.specs.declared.resolved.Leaf.{Leaf}
-use Rattle.pocket_types.specs.declared.resolved.Leaf.TheVariants as leaf
 use Rattle.pocket_types.specs.declared.resolved.Modifier.TheVariants as modifier
 use Rattle.pocket_types.specs.declared.resolved.Prefix.{Prefix}
 use Rattle.pocket_types.specs.declared.resolved.Root.TheVariants as root

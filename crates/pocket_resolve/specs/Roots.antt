@@ -24,7 +24,7 @@ use Rattle.pocket_resolve.specs.Fields.{collection_named, field_named}
 use Rattle.pocket_resolve.specs.Names.{is_built_in, requested_part, macro_named}
 use Rattle.pocket_resolve.specs.declared.names.Requested.{Requested}
 use Rattle.pocket_resolve.specs.declared.names.Requested.TheVariants as requested
-use Rattle.pocket_resolve.specs.Paths.{Setting, Place, place_named, no_suffix, reading_of, along}
+use Rattle.pocket_resolve.specs.Paths.{Setting, place_named, no_suffix, reading_of, along}
 use Rattle.pocket_resolve.specs.declared.ends.Reading.{Reading}
 use Rattle.pocket_resolve.specs.declared.ends.Reading.TheVariants.{As, Items}
 use Rattle.pocket_resolve.specs.Paths as place

@@ -1,10 +1,9 @@
 // Whole filters.
-ghost use Rattle.std.specs.Prelude.{◌≡◌, ◌+◌, Ok, IfOk};
+ghost use Rattle.std.specs.Prelude.{◌≡◌, ◌+◌, Ok};
 ghost use Rattle.pocket_types.specs.declared.resolved.Resolved.TheVariants as made;
 ghost use Rattle.pocket_resolve.specs.Answers.{made_of, Gives, GivesAs};
 ghost use Rattle.pocket_resolve.specs.Filters.{home_of, is_guarded, setting, test_from, filter_from};
 ghost use Rattle.pocket_resolve.specs.Roots as roots;
-ghost use Rattle.pocket_resolve.specs.Seen.{setting_of};
 
 use crate::answers::with;
 use crate::paths::side;

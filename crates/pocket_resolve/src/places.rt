@@ -1,7 +1,6 @@
 // Where a path stands, and what it is resolved against.
-ghost use Rattle.std.specs.Prelude.{◌≡◌, option_map};
+ghost use Rattle.std.specs.Prelude.{◌≡◌};
 ghost use Rattle.std.specs.Option.{option_copied};
-ghost use Rattle.pocket_resolve.specs.Fields as fields;
 ghost use Rattle.pocket_resolve.specs.Paths as paths;
 ghost use Rattle.pocket_resolve.specs.Seen.{place_of};
 
