@@ -5,4 +5,5 @@ pub mod Paths
 pub mod Roots
 pub mod Filters
 pub mod Typing
+pub mod Safety
 pub mod Seen

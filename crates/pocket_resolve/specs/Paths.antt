@@ -130,6 +130,39 @@ reading_of any kind (Some suffix) =
     else (if bytes_eq suffix (codes "lower") then only_if (has_letters kind) (As modifier.Lower)
     else None))
 
+-- the name of a field at the end of a path, and how it is read
+abbrev pub End : Type 0
+End = Name × Reading
+
+-- what every record has has no modifiers
+unfoldable pub built_in_end : Setting → Part → Result End ResolveFault
+built_in_end s part = do
+  _ ← no_suffix s part
+  Ok (part.name, As modifier.Plain)
+
+-- a field at the end
+unfoldable pub field_end : Setting → Place → Part → Result End ResolveFault
+field_end s place part = do
+  field ← or_fault (field_at s.collections place part.name) (fault.NoField part.name)
+  reading ← or_fault (reading_of s.any field.kind part.suffix) (fault.BadModifier s.operand)
+  _ ← may_see s field
+  Ok (field.name, reading)
+
+-- a back relation leads on, and is no field
+unfoldable pub back_end : Setting → Place → Part → List ℕ → List ℕ → Result End ResolveFault
+back_end s place part from name = do
+  _ ← back_relation s place from name
+  Err (fault.NoField part.name)
+
+-- the last part
+unfoldable pub path_end : Setting → Place → Part → Result End ResolveFault
+path_end s Nowhere part = Err (fault.NoField part.name)
+path_end s place part =
+    option_map_or (λ via. back_end s place part via.0 via.1) (cut_at_via part.name)
+    (if is_built_in part.name then built_in_end s part else field_end s place part)
+
+-- ---- whole paths
+
 abbrev pub with_step : Prefix → Step → Prefix
 with_step prefix step = record { root = prefix.root; steps = prefix.steps ++ step ∷ [] }
 
@@ -138,37 +171,12 @@ abbrev pub leaf_read : Prefix → Name → Reading → Leaf
 leaf_read prefix name (As modifier) = leaf.Of prefix name modifier
 leaf_read prefix name Items = leaf.ItemOf (with_step prefix (step.Item name))
 
--- what every record has has no modifiers
-unfoldable pub built_in_end : Setting → Prefix → Part → Result Leaf ResolveFault
-built_in_end s prefix part = do
-  _ ← no_suffix s part
-  Ok (leaf.Of prefix part.name modifier.Plain)
-
--- a field at the end
-unfoldable pub field_end : Setting → Place → Prefix → Part → Result Leaf ResolveFault
-field_end s place prefix part = do
-  field ← or_fault (field_at s.collections place part.name) (fault.NoField part.name)
-  reading ← or_fault (reading_of s.any field.kind part.suffix) (fault.BadModifier s.operand)
-  _ ← may_see s field
-  Ok (leaf_read prefix field.name reading)
-
--- a back relation leads on, and is no field
-unfoldable pub back_end : Setting → Place → Part → List ℕ → List ℕ → Result Leaf ResolveFault
-back_end s place part from name = do
-  _ ← back_relation s place from name
-  Err (fault.NoField part.name)
-
--- the last part
-unfoldable pub path_end : Setting → Place → Prefix → Part → Result Leaf ResolveFault
-path_end s Nowhere prefix part = Err (fault.NoField part.name)
-path_end s place prefix part =
-    option_map_or (λ via. back_end s place part via.0 via.1) (cut_at_via part.name)
-    (if is_built_in part.name then built_in_end s prefix part else field_end s place prefix part)
-
 -- A path from a place on, behind the part of a name: each part but the last is a step. Where none stands a field is wanting.
 unfoldable pub along : Setting → List ℕ → Place → Prefix → List Part → Result Leaf ResolveFault
 along s behind place prefix [] = Err (fault.NoField behind)
-along s behind place prefix (part ∷ []) = path_end s place prefix part
+along s behind place prefix (part ∷ []) = do
+  end ← path_end s place part
+  Ok (leaf_read prefix end.0 end.1)
 along s behind place prefix (part ∷ next ∷ parts) = do
   taken ← one_step s place (length prefix.steps) part
   along s part.name taken.1 (with_step prefix taken.0) (next ∷ parts)

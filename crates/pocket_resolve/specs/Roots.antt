@@ -24,7 +24,7 @@ use Rattle.pocket_resolve.specs.Fields.{collection_named, field_named}
 use Rattle.pocket_resolve.specs.Names.{is_built_in, requested_part, macro_named}
 use Rattle.pocket_resolve.specs.declared.names.Requested.{Requested}
 use Rattle.pocket_resolve.specs.declared.names.Requested.TheVariants as requested
-use Rattle.pocket_resolve.specs.Paths.{Setting, Place, place_named, no_suffix, reading_of, along}
+use Rattle.pocket_resolve.specs.Paths.{Setting, place_named, no_suffix, reading_of, along}
 use Rattle.pocket_resolve.specs.declared.ends.Reading.{Reading}
 use Rattle.pocket_resolve.specs.declared.ends.Reading.TheVariants.{As, Items}
 use Rattle.pocket_resolve.specs.Paths as place
@@ -37,10 +37,16 @@ abbrev pub first_part : List Part → Option (Part × List Part)
 first_part [] = None
 first_part (part ∷ parts) = Some (part, parts)
 
--- what has no names behind it: a part there is no field
+-- behind what has no names: a part there is no field
+abbrev pub no_part : List Part → Result (Unit {0}) ResolveFault
+no_part [] = Ok tt
+no_part (part ∷ parts) = Err (fault.NoField part.name)
+
+-- what has no names behind it
 abbrev pub alone : Leaf → List Part → Result Leaf ResolveFault
-alone leaf [] = Ok leaf
-alone leaf (part ∷ parts) = Err (fault.NoField part.name)
+alone leaf parts = do
+  _ ← no_part parts
+  Ok leaf
 
 -- ---- headers and the query
 

@@ -1,5 +1,5 @@
 -- What it means that a resolved filter is typed: each name in it stands for something that the collections have.
-use Rattle.std.specs.Prelude.{◌≡◌, ◌⊎◌, ⊤, Bool, true, false, List, [], ◌∷◌, ◌++◌, All, Some}
+use Rattle.std.specs.Prelude.{◌≡◌, ◌⊎◌, ⊤, Bool, true, false, not, ◌&&◌, List, [], ◌∷◌, ◌++◌, All, Some}
 use Rattle.pocket_types.specs.Kinds.{is_multiple, target_of}
 use Rattle.pocket_types.specs.declared.names.Name.{Name}
 use Rattle.pocket_types.specs.declared.records.Collection.{Collection}
@@ -40,11 +40,10 @@ Leads collections place (step.Back from name) next =
     IsRecordOf collections from next × HasField collections next name (leads_to collections place)
 Leads collections place (step.Item name) next = ⊥
 
--- steps lead from one place to another: each leads on from where those before it led
-abbrev pub LeadsAlong : List Collection → Place → List Step → Place → Type 0
-LeadsAlong collections place [] last = place ≡ last
-LeadsAlong collections place (step ∷ steps) last =
-    (next : Place) × Leads collections place step next × LeadsAlong collections next steps last
+-- steps go from one place to another: each goes on from where those before it went
+abbrev pub Along : (Place → Step → Place → Type 0) → Place → List Step → Place → Type 0
+Along goes place [] last = place ≡ last
+Along goes place (step ∷ steps) last = (next : Place) × goes place step next × Along goes next steps last
 
 -- a root begins at a place: at a record of the home collection, at the caller's, or at one of the collection that it names
 abbrev pub BeginsAt : List Collection → Name → Root → Place → Type 0
@@ -56,21 +55,21 @@ BeginsAt collections home (root.Look name alias) place = IsRecordOf collections 
 -- a prefix stands at a place: its steps lead there from where its root begins
 abbrev pub StandsAt : List Collection → Name → Prefix → Place → Type 0
 StandsAt collections home prefix place =
-    (start : Place) × BeginsAt collections home prefix.root start × LeadsAlong collections start prefix.steps place
+    (start : Place) × BeginsAt collections home prefix.root start × Along (Leads collections) start prefix.steps place
 
 -- ---- sides
 
--- a modifier fits the kind of a field that it is taken of
-abbrev pub fits : Modifier → Kind → Bool
-fits modifier.Plain kind = true
-fits modifier.Length kind = is_multiple kind
-fits modifier.Lower kind = has_letters kind
-fits modifier.Isset kind = false
+-- a modifier fits the kind of a field that it is taken of. Under a `?` a multiple field isn't taken plain, but item by item.
+abbrev pub fits : Bool → Modifier → Kind → Bool
+fits any modifier.Plain kind = not (any && is_multiple kind)
+fits any modifier.Length kind = is_multiple kind
+fits any modifier.Lower kind = has_letters kind
+fits any modifier.Isset kind = false
 
 -- of a sent field it may also be asked whether it was sent
-abbrev pub fits_sent : Modifier → Kind → Bool
-fits_sent modifier.Isset kind = true
-fits_sent m kind = fits m kind
+abbrev pub fits_sent : Bool → Modifier → Kind → Bool
+fits_sent any modifier.Isset kind = true
+fits_sent any m kind = fits any m kind
 
 -- a modifier fits a header or a part of the query, which has no items to be counted
 abbrev pub fits_text : Modifier → Bool
@@ -98,30 +97,34 @@ HasItems collections home prefix =
     × (HasFieldAt collections home (record { root = prefix.root; steps = before }) name is_multiple
     ⊎ ((prefix.root ≡ root.Body) × (before ≡ []) × MayBeSent collections home name is_multiple))
 
--- one side of a comparison is typed
-abbrev pub IsSideTyped : List Collection → Name → Leaf → Type 0
-IsSideTyped collections home (leaf.Of prefix name m) = HasBuiltIn collections home prefix name m ⊎ HasFieldAt collections home prefix name (fits m)
-IsSideTyped collections home (leaf.ItemOf prefix) = HasItems collections home prefix
-IsSideTyped collections home (leaf.Body name m) = MayBeSent collections home name (fits_sent m)
-IsSideTyped collections home (leaf.Header name m) = fits_text m ≡ true
-IsSideTyped collections home (leaf.Query name m) = fits_text m ≡ true
-IsSideTyped collections home (leaf.Fixed value) = ⊤
-IsSideTyped collections home (leaf.Macro which) = ⊤
-IsSideTyped collections home leaf.Context = ⊤
-IsSideTyped collections home leaf.Method = ⊤
+-- one side of a comparison is typed, under an operator with a `?` or without
+abbrev pub IsSideTyped : List Collection → Name → Bool → Leaf → Type 0
+IsSideTyped collections home any (leaf.Of prefix name m) = HasBuiltIn collections home prefix name m ⊎ HasFieldAt collections home prefix name (fits any m)
+IsSideTyped collections home any (leaf.ItemOf prefix) = HasItems collections home prefix
+IsSideTyped collections home any (leaf.Body name m) = MayBeSent collections home name (fits_sent any m)
+IsSideTyped collections home any (leaf.Header name m) = fits_text m ≡ true
+IsSideTyped collections home any (leaf.Query name m) = fits_text m ≡ true
+IsSideTyped collections home any (leaf.Fixed value) = ⊤
+IsSideTyped collections home any (leaf.Macro which) = ⊤
+IsSideTyped collections home any leaf.Context = ⊤
+IsSideTyped collections home any leaf.Method = ⊤
 
 -- ---- filters
 
+-- a side of a comparison, and whether its operator has a `?`
+abbrev pub Side : Type 0
+Side = Bool × Leaf
+
 -- the sides of one layer, where those of what stands in it are there
-abbrev pub sides_step : Resolved-F (List Leaf) → List Leaf
-sides_step (resolved.Test left any op right) = left ∷ right ∷ []
+abbrev pub sides_step : Resolved-F (List Side) → List Side
+sides_step (resolved.Test left any op right) = (any, left) ∷ (any, right) ∷ []
 sides_step (resolved.And a b) = a ++ b
 sides_step (resolved.Or a b) = a ++ b
 
 -- both sides of each comparison of a filter
-abbrev pub sides : Resolved → List Leaf
-sides = fold-Resolved (List Leaf) sides_step
+abbrev pub sides : Resolved → List Side
+sides = fold-Resolved (List Side) sides_step
 
 -- a filter is typed: both sides of each of its comparisons are
 unfoldable pub IsTyped : List Collection → Name → Resolved → Type 0
-IsTyped collections home filter = All (IsSideTyped collections home) (sides filter)
+IsTyped collections home filter = All (λ s. IsSideTyped collections home s.0 s.1) (sides filter)

@@ -1,8 +1,9 @@
 // The last part of a path: a field, as it is read.
-ghost use Rattle.std.specs.Prelude.{◌≡◌, IfOk, Ok};
+ghost use Rattle.std.specs.Prelude.{◌≡◌, true, IfOk, Ok};
 ghost use Rattle.std.specs.Option.{option_copied};
 ghost use Rattle.pocket_resolve.specs.Answers.{Gives};
-ghost use Rattle.pocket_resolve.specs.Paths.{only_if as only_when, reading_of as reading_under, leaf_read as leaf_as_read, with_step as prefix_with, built_in_end as end_built_in, field_end as end_field, back_end as end_back, path_end as end_of_path};
+ghost use Rattle.pocket_resolve.specs.Names as names;
+ghost use Rattle.pocket_resolve.specs.Paths as paths;
 ghost use Rattle.pocket_resolve.specs.Seen.{setting_of, place_of};
 
 use crate::faults::no_field;
@@ -23,7 +24,7 @@ pub enum Reading {
 }
 
 fn only_if(holds: bool, reading: Reading) -> Option<Reading>
-    ensures { result ≡ only_when holds reading }
+    ensures { result ≡ paths.only_if holds reading }
 {
     if holds { Some(reading) } else { None }
 }
@@ -31,7 +32,7 @@ fn only_if(holds: bool, reading: Reading) -> Option<Reading>
 /// The reading of a field of a kind under a suffix.
 #[tactic(auto, unfolding(crate::specs::Paths::reading_of))]
 pub fn reading_of(any: bool, kind: &Kind, suffix: Option<&Text>) -> Option<Reading>
-    ensures { result ≡ reading_under any kind.now (option_copied suffix.entry) }
+    ensures { result ≡ paths.reading_of any kind.now (option_copied suffix.entry) }
 {
     let multiple = kind.is_multiple();
     let Some(suffix) = suffix else {
@@ -49,48 +50,28 @@ pub fn reading_of(any: bool, kind: &Kind, suffix: Option<&Text>) -> Option<Readi
     }
 }
 
-/// A prefix with one step more.
-pub fn with_step(mut prefix: Prefix, step: Step) -> Result<Prefix, AllocError>
-    ensures { IfOk result (λ longer. longer ≡ prefix_with prefix step) }
-{
-    prefix.steps.push(step)?;
-    Ok(prefix)
-}
-
-/// A field of the records of a prefix, as it is read.
-fn leaf_read(prefix: Prefix, name: Name, reading: Reading) -> Result<Leaf, AllocError>
-    ensures { IfOk result (λ leaf. leaf ≡ leaf_as_read prefix name reading) }
-{
-    match reading {
-        Reading::As(modifier) => Ok(Leaf::Of {
-            prefix,
-            field: name,
-            modifier,
-        }),
-        Reading::Items => Ok(Leaf::ItemOf(with_step(prefix, Step::Item(name))?)),
-    }
-}
-
-/// A name that every record has. Each of them is of a name's form, so that only memory can be wanting.
-fn name_read(alloc: Global, text: &str) -> Result<Name, ResolveFault>
+/// A name that every record has. Each of them is of a name's form.
+#[tactic(auto, using(crate::proofs::BuiltIns::built_in_is_name))]
+fn built_in_name(alloc: Global, text: &str) -> Result<Name, ResolveFault>
+    requires { names.is_built_in text.now ≡ true }
     ensures { Gives result (Ok text.now) }
 {
     match Name::read(alloc, text) {
         Ok(name) => Ok(name),
-        Err(NameFault::BadName | NameFault::Memory) => Err(ResolveFault::Memory),
+        Err(NameFault::BadName) => unreachable!(),
+        Err(NameFault::Memory) => Err(ResolveFault::Memory),
     }
 }
 
-/// A field at the end.
+/// A field at the end, and how it is read.
 #[tactic(auto, unfolding(crate::specs::Paths::field_end))]
 fn field_end(
     alloc: Global,
     setting: &Setting<'_>,
     place: Place<'_>,
-    prefix: Prefix,
     part: &Part,
-) -> Result<Leaf, ResolveFault>
-    ensures { Gives result (end_field (setting_of setting.now) (place_of place.entry) prefix part.now) }
+) -> Result<(Name, Reading), ResolveFault>
+    ensures { Gives result (paths.field_end (setting_of setting.now) (place_of place.entry) part.now) }
 {
     let Some(field) = field_at(setting.collections, place, part.name.as_str()) else {
         return Err(no_field(alloc, part.name.as_str()));
@@ -99,7 +80,7 @@ fn field_end(
         return Err(ResolveFault::BadModifier(setting.operand));
     };
     may_see(alloc, setting, field)?;
-    Ok(leaf_read(prefix, field.name.clone()?, reading)?)
+    Ok((field.name.clone()?, reading))
 }
 
 /// A name that every record has, at the end.
@@ -107,17 +88,16 @@ fn field_end(
 fn built_in_end(
     alloc: Global,
     setting: &Setting<'_>,
-    prefix: Prefix,
     part: &Part,
-) -> Result<Leaf, ResolveFault>
-    ensures { Gives result (end_built_in (setting_of setting.now) prefix part.now) }
+) -> Result<(Name, Reading), ResolveFault>
+    requires { names.is_built_in part.now.name ≡ true }
+    ensures { Gives result (paths.built_in_end (setting_of setting.now) part.now) }
 {
     no_suffix(setting, part)?;
-    Ok(Leaf::Of {
-        prefix,
-        field: name_read(alloc, part.name.as_str())?,
-        modifier: Modifier::Plain,
-    })
+    Ok((
+        built_in_name(alloc, part.name.as_str())?,
+        Reading::As(Modifier::Plain),
+    ))
 }
 
 /// A back relation at the end, where it is no field.
@@ -129,8 +109,8 @@ fn back_end(
     part: &Part,
     from: &str,
     name: &str,
-) -> Result<Leaf, ResolveFault>
-    ensures { Gives result (end_back (setting_of setting.now) (place_of place.entry) part.now from.now name.now) }
+) -> Result<(Name, Reading), ResolveFault>
+    ensures { Gives result (paths.back_end (setting_of setting.now) (place_of place.entry) part.now from.now name.now) }
 {
     back_relation(alloc, setting, place, from, name)?;
     Err(no_field(alloc, part.name.as_str()))
@@ -142,10 +122,9 @@ pub fn path_end(
     alloc: Global,
     setting: &Setting<'_>,
     place: Place<'_>,
-    prefix: Prefix,
     part: &Part,
-) -> Result<Leaf, ResolveFault>
-    ensures { Gives result (end_of_path (setting_of setting.now) (place_of place.entry) prefix part.now) }
+) -> Result<(Name, Reading), ResolveFault>
+    ensures { Gives result (paths.path_end (setting_of setting.now) (place_of place.entry) part.now) }
 {
     let name = part.name.as_str();
     if let Place::Nowhere = place {
@@ -153,7 +132,29 @@ pub fn path_end(
     }
     match cut_at_via(name) {
         Some((from, field)) => back_end(alloc, setting, place, part, from, field),
-        None if is_built_in(name) => built_in_end(alloc, setting, prefix, part),
-        None => field_end(alloc, setting, place, prefix, part),
+        None if is_built_in(name) => built_in_end(alloc, setting, part),
+        None => field_end(alloc, setting, place, part),
+    }
+}
+
+/// A prefix with one step more.
+fn with_step(mut prefix: Prefix, step: Step) -> Result<Prefix, AllocError>
+    ensures { IfOk result (λ longer. longer ≡ paths.with_step prefix step) }
+{
+    prefix.steps.push(step)?;
+    Ok(prefix)
+}
+
+/// A field of the records of a prefix, as it is read.
+pub fn leaf_read(prefix: Prefix, name: Name, reading: Reading) -> Result<Leaf, AllocError>
+    ensures { IfOk result (λ leaf. leaf ≡ paths.leaf_read prefix name reading) }
+{
+    match reading {
+        Reading::As(modifier) => Ok(Leaf::Of {
+            prefix,
+            field: name,
+            modifier,
+        }),
+        Reading::Items => Ok(Leaf::ItemOf(with_step(prefix, Step::Item(name))?)),
     }
 }

@@ -1,5 +1,5 @@
 // Faults with the names that they tell.
-ghost use Rattle.std.specs.Prelude.{◌≡◌, ◌≢◌, IfErr};
+ghost use Rattle.std.specs.Prelude.{◌≡◌, ◌≢◌};
 ghost use Rattle.pocket_types.specs.declared.faults.ResolveFault.TheVariants as fault;
 
 use pocket_types::{ResolveFault, Text};

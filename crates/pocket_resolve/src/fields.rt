@@ -3,14 +3,14 @@ ghost use Rattle.std.specs.Prelude.{◌≡◌, true, filter_map};
 ghost use Rattle.std.specs.List.{list_all};
 ghost use Rattle.std.specs.Option.{option_map_or};
 ghost use Rattle.std.specs.Option.{option_copied};
-ghost use Rattle.pocket_types.specs.Kinds.{is_multiple as multiple, target_of};
-ghost use Rattle.pocket_resolve.specs.Fields.{collection_named as named_collection, field_named as named_field, has_letters as letters, same_type, same_answer, same_target, is_like as like, auth_field as named_auth_field, first, caller_field as agreed_field};
+ghost use Rattle.pocket_types.specs.Kinds.{is_multiple, target_of};
+ghost use Rattle.pocket_resolve.specs.Fields as fields;
 
 use pocket_types::{Collection, Field, Kind};
 
 /// The collection of a name.
 pub fn collection_named<'a>(collections: &'a [Collection], name: &str) -> Option<&'a Collection>
-    ensures { option_copied result ≡ named_collection collections.now name.now }
+    ensures { option_copied result ≡ fields.collection_named collections.now name.now }
 {
     collections
         .iter()
@@ -19,7 +19,7 @@ pub fn collection_named<'a>(collections: &'a [Collection], name: &str) -> Option
 
 /// The field of a name.
 pub fn field_named<'a>(collection: &'a Collection, name: &str) -> Option<&'a Field>
-    ensures { option_copied result ≡ named_field collection.now name.now }
+    ensures { option_copied result ≡ fields.field_named collection.now name.now }
 {
     collection
         .fields
@@ -30,7 +30,7 @@ pub fn field_named<'a>(collection: &'a Collection, name: &str) -> Option<&'a Fie
 
 /// Whether `:lower` stands on a field.
 pub fn has_letters(kind: &Kind) -> bool
-    ensures { result ≡ letters kind.now }
+    ensures { result ≡ fields.has_letters kind.now }
 {
     match kind {
         Kind::Text { .. } => true,
@@ -40,7 +40,7 @@ pub fn has_letters(kind: &Kind) -> bool
 }
 
 fn are_of_one_type(a: &Kind, b: &Kind) -> bool
-    ensures { result ≡ same_type a.now b.now }
+    ensures { result ≡ fields.same_type a.now b.now }
 {
     matches!(
         (a, b),
@@ -55,7 +55,7 @@ fn are_of_one_type(a: &Kind, b: &Kind) -> bool
 }
 
 fn lead_to_one_target(a: &Kind, b: &Kind) -> bool
-    ensures { result ≡ same_target (target_of a.now) (target_of b.now) }
+    ensures { result ≡ fields.same_target (target_of a.now) (target_of b.now) }
 {
     match (a.target(), b.target()) {
         (Some(a), Some(b)) => a == b,
@@ -65,14 +65,14 @@ fn lead_to_one_target(a: &Kind, b: &Kind) -> bool
 }
 
 fn are_alike_multiple(a: &Kind, b: &Kind) -> bool
-    ensures { result ≡ same_answer (multiple a.now) (multiple b.now) }
+    ensures { result ≡ fields.same_answer (is_multiple a.now) (is_multiple b.now) }
 {
     a.is_multiple() == b.is_multiple()
 }
 
 /// Whether two fields have the same type, target and multiplicity.
 fn is_like(a: &Kind, b: &Kind) -> bool
-    ensures { result ≡ like a.now b.now }
+    ensures { result ≡ fields.is_like a.now b.now }
 {
     let types = are_of_one_type(a, b);
     let multiple = are_alike_multiple(a, b);
@@ -82,7 +82,7 @@ fn is_like(a: &Kind, b: &Kind) -> bool
 
 /// The field of a name, where the collection is an auth collection.
 fn auth_field<'a>(collection: &'a Collection, name: &str) -> Option<&'a Field>
-    ensures { option_copied result ≡ named_auth_field name.now collection.now }
+    ensures { option_copied result ≡ fields.auth_field name.now collection.now }
 {
     if collection.is_auth {
         field_named(collection, name)
@@ -93,7 +93,7 @@ fn auth_field<'a>(collection: &'a Collection, name: &str) -> Option<&'a Field>
 
 /// Whether a collection holds a field alike, or holds none that a caller may have.
 fn holds_alike(kind: &Kind, collection: &Collection, name: &str) -> bool
-    ensures { result ≡ option_map_or (λ g. like kind.now g.kind) (named_auth_field name.now collection.now) true }
+    ensures { result ≡ option_map_or (λ g. fields.is_like kind.now g.kind) (fields.auth_field name.now collection.now) true }
 {
     match auth_field(collection, name) {
         Some(field) => is_like(kind, &field.kind),
@@ -103,7 +103,7 @@ fn holds_alike(kind: &Kind, collection: &Collection, name: &str) -> bool
 
 /// Whether all auth collections that have a field hold it alike.
 fn all_hold_alike(kind: &Kind, collections: &[Collection], name: &str) -> bool
-    ensures { result ≡ list_all (λ c. option_map_or (λ g. like kind.now g.kind) (named_auth_field name.now c) true) collections.now }
+    ensures { result ≡ list_all (λ c. option_map_or (λ g. fields.is_like kind.now g.kind) (fields.auth_field name.now c) true) collections.now }
 {
     collections
         .iter()
@@ -112,7 +112,7 @@ fn all_hold_alike(kind: &Kind, collections: &[Collection], name: &str) -> bool
 
 /// The field of a name in the first auth collection that has it.
 fn first_auth_field<'a>(collections: &'a [Collection], name: &str) -> Option<&'a Field>
-    ensures { option_copied result ≡ first (filter_map (named_auth_field name.now) collections.now) }
+    ensures { option_copied result ≡ fields.first (filter_map (fields.auth_field name.now) collections.now) }
 {
     for collection in collections {
         if let Some(field) = auth_field(collection, name) {
@@ -125,7 +125,7 @@ fn first_auth_field<'a>(collections: &'a [Collection], name: &str) -> Option<&'a
 /// A field of the caller's record: one that every auth collection that has it holds alike.
 #[tactic(auto, using(crate::proofs::FieldLemmas::all_given), unfolding(crate::specs::Fields::caller_field))]
 pub fn caller_field<'a>(collections: &'a [Collection], name: &str) -> Option<&'a Field>
-    ensures { option_copied result ≡ agreed_field collections.now name.now }
+    ensures { option_copied result ≡ fields.caller_field collections.now name.now }
 {
     match first_auth_field(collections, name) {
         Some(field) => {

@@ -1,16 +1,16 @@
 // Whole filters.
-ghost use Rattle.std.specs.Prelude.{◌≡◌, ◌+◌, Ok, IfOk};
+ghost use Rattle.std.specs.Prelude.{◌≡◌, ◌+◌, Ok};
 ghost use Rattle.pocket_types.specs.declared.resolved.Resolved.TheVariants as made;
 ghost use Rattle.pocket_resolve.specs.Answers.{made_of, Gives, GivesAs};
 ghost use Rattle.pocket_resolve.specs.Filters.{home_of, is_guarded, setting, test_from, filter_from};
-ghost use Rattle.pocket_resolve.specs.Roots.{side as side_leaf};
-ghost use Rattle.pocket_resolve.specs.Seen.{setting_of};
+ghost use Rattle.pocket_resolve.specs.Roots as roots;
 
+use crate::answers::with;
 use crate::paths::side;
 use crate::places::Setting;
 use crate::purpose::Purpose;
 use pocket_types::{Boxed, Collection, Expr, Leaf, Name, Op, Operand, ResolveFault, Resolved};
-use std::alloc::{AllocError, Global};
+use std::alloc::Global;
 
 fn home(purpose: &Purpose) -> &Name
     ensures { result.now ≡ home_of purpose.now }
@@ -39,7 +39,7 @@ fn side_at(
     number: u32,
     any: bool,
 ) -> Result<Leaf, ResolveFault>
-    ensures { Gives result (side_leaf (setting collections.now purpose.now number any) operand.now) }
+    ensures { Gives result (roots.side (setting collections.now purpose.now number any) operand.now) }
 {
     let setting = Setting {
         collections,
@@ -79,7 +79,8 @@ fn test_at(
     let second = after(first)?;
     let next = after(second)?;
     let left = side_at(alloc, collections, purpose, left, first, any)?;
-    let right = side_at(alloc, collections, purpose, right, second, any)?;
+    let right = side_at(alloc, collections, purpose, right, second, any);
+    let (left, right) = with(left, right)?;
     *number = next;
     Ok(Resolved::Test {
         left,
@@ -87,6 +88,19 @@ fn test_at(
         op,
         right,
     })
+}
+
+/// Two values in boxes, where the second one is there.
+fn boxed<A: Drop>(
+    alloc: Global,
+    a: A,
+    b: Result<A, ResolveFault>,
+) -> Result<(Boxed<A>, Boxed<A>), ResolveFault>
+    ensures { Gives result (made_of (λ y. (a, y)) b) }
+{
+    let a = Boxed::new(alloc, a)?;
+    let b = Boxed::new(alloc, b?)?;
+    Ok((a, b))
 }
 
 /// Both filters, where the second one is there.
@@ -97,7 +111,8 @@ fn both(
 ) -> Result<Resolved, ResolveFault>
     ensures { Gives result (made_of (made.And a) b) }
 {
-    Ok(Resolved::And(Boxed::new(alloc, a)?, Boxed::new(alloc, b?)?))
+    let (a, b) = boxed(alloc, a, b)?;
+    Ok(Resolved::And(a, b))
 }
 
 /// One of the filters, where the second one is there.
@@ -108,7 +123,8 @@ fn either(
 ) -> Result<Resolved, ResolveFault>
     ensures { Gives result (made_of (made.Or a) b) }
 {
-    Ok(Resolved::Or(Boxed::new(alloc, a)?, Boxed::new(alloc, b?)?))
+    let (a, b) = boxed(alloc, a, b)?;
+    Ok(Resolved::Or(a, b))
 }
 
 /// An expression whose first operand has a number, which becomes that of the next operand.

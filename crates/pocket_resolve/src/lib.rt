@@ -1,6 +1,7 @@
 //! Filters resolved: each name of an expression is looked up in the collections, and each path is typed.
 #![tactic(auto)]
 
+mod answers;
 mod ends;
 mod faults;
 mod fields;

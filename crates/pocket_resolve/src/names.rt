@@ -1,19 +1,19 @@
 // Names with a meaning of their own.
 ghost use Rattle.std.specs.Prelude.{◌≡◌, option_map};
-ghost use Rattle.pocket_resolve.specs.Names.{is_built_in as built_in, cut_at_via as via_parts, requested_part as named_part, macro_named as named_macro};
+ghost use Rattle.pocket_resolve.specs.Names as names;
 
 use pocket_types::Macro;
 
 /// Whether every record has a name, beside the fields of its collection.
 pub fn is_built_in(name: &str) -> bool
-    ensures { result ≡ built_in name.now }
+    ensures { result ≡ names.is_built_in name.now }
 {
     name == "id" || name == "created" || name == "updated" || name == "collectionName"
 }
 
 /// A name `X_via_F` as X and F, cut at its first `_via_`.
 pub fn cut_at_via(name: &str) -> Option<(&str, &str)>
-    ensures { option_map (λ parts. (parts.0.now, parts.1.now)) result ≡ via_parts name.now }
+    ensures { option_map (λ parts. (parts.0.now, parts.1.now)) result ≡ names.cut_at_via name.now }
 {
     name.split_once("_via_")
 }
@@ -32,7 +32,7 @@ pub enum Requested {
 /// The part of a request of a name.
 #[tactic(auto, unfolding(crate::specs::Names::requested_part))]
 pub fn requested_part(name: &str) -> Option<Requested>
-    ensures { result ≡ named_part name.now }
+    ensures { result ≡ names.requested_part name.now }
 {
     match name {
         "context" => Some(Requested::Context),
@@ -48,7 +48,7 @@ pub fn requested_part(name: &str) -> Option<Requested>
 /// The macro of a name.
 #[tactic(auto, unfolding(crate::specs::Names::macro_named))]
 pub fn macro_named(name: &str) -> Option<Macro>
-    ensures { result ≡ named_macro name.now }
+    ensures { result ≡ names.macro_named name.now }
 {
     match name {
         "now" => Some(Macro::Now),

@@ -1,39 +1,41 @@
 // Whole paths: how they begin, and where they lead.
 ghost use Rattle.std.specs.Prelude.{◌≡◌, IfOk, [], unwrap_or};
 ghost use Rattle.std.specs.Option.{option_copied};
-ghost use Rattle.pocket_resolve.specs.Answers.{Gives};
-ghost use Rattle.pocket_resolve.specs.Paths.{along as along_path};
-ghost use Rattle.pocket_resolve.specs.Roots.{alone as alone_leaf, of_request as request_leaf, of_collection as collection_leaf, of_macro as macro_leaf, is_privileged as privileged, of_first as first_leaf, of_sign as sign_leaf, of_path as path_leaf, request_path as requested_leaf, bare as bare_prefix, side as side_leaf};
+ghost use Rattle.pocket_types.specs.declared.resolved.Root.TheVariants as root;
+ghost use Rattle.pocket_resolve.specs.Answers.{Gives, GivesAs};
+ghost use Rattle.pocket_resolve.specs.Paths as paths;
+ghost use Rattle.pocket_resolve.specs.Roots as roots;
 ghost use Rattle.pocket_resolve.specs.Seen.{setting_of, place_of};
 
-use crate::ends::{path_end, with_step};
+use crate::answers::with;
+use crate::ends::{Reading, leaf_read, path_end};
 use crate::faults::{no_collection, no_field};
 use crate::fields::collection_named;
 use crate::names::{Requested, macro_named, requested_part};
 use crate::places::{Place, Setting, place_named};
 use crate::sent::{header, query, sent_field};
 use crate::steps::{no_suffix, one_step};
-use pocket_types::{Leaf, Operand, Part, Prefix, ResolveFault, Root, Seq, Text, Value};
+use pocket_types::{Leaf, Name, Operand, Part, Prefix, ResolveFault, Root, Seq, Text, Value};
 use std::alloc::{AllocError, Global};
 
-/// A path from a place on, behind the part of a name.
+/// The end of a path from a place on, behind the part of a name. The prefix takes the steps that lead there.
 #[tactic(auto, unfolding(crate::specs::Paths::along))]
 fn along<'a>(
     alloc: Global,
     setting: &Setting<'a>,
     behind: &str,
     place: Place<'a>,
-    prefix: Prefix,
+    prefix: &mut Prefix,
     parts: &[Part],
-) -> Result<Leaf, ResolveFault>
-    ensures { Gives result (along_path (setting_of setting.now) behind.now (place_of place.entry) prefix parts.now) }
+) -> Result<(Name, Reading), ResolveFault>
+    ensures { GivesAs (λ end. paths.leaf_read prefix.new end.0 end.1) result (paths.along (setting_of setting.now) behind.now (place_of place.entry) prefix.old parts.now) }
 {
     match parts {
         [] => Err(no_field(alloc, behind)),
-        [last] => path_end(alloc, setting, place, prefix, last),
+        [last] => path_end(alloc, setting, place, last),
         [part, rest @ ..] => {
             let (step, next) = one_step(alloc, setting, place, prefix.steps.len(), part)?;
-            let prefix = with_step(prefix, step)?;
+            prefix.steps.push(step)?;
             along(alloc, setting, part.name.as_str(), next, prefix, rest)
         }
     }
@@ -41,7 +43,7 @@ fn along<'a>(
 
 /// A prefix without steps.
 fn bare(alloc: Global, root: Root) -> Prefix
-    ensures { result ≡ bare_prefix root }
+    ensures { result ≡ roots.bare root }
 {
     Prefix {
         root,
@@ -49,12 +51,29 @@ fn bare(alloc: Global, root: Root) -> Prefix
     }
 }
 
-/// What has no names behind it.
-fn alone(alloc: Global, leaf: Leaf, parts: &[Part]) -> Result<Leaf, ResolveFault>
-    ensures { Gives result (alone_leaf leaf parts.now) }
+/// A path from a root.
+fn path_from<'a>(
+    alloc: Global,
+    setting: &Setting<'a>,
+    root: Root,
+    behind: &str,
+    place: Place<'a>,
+    parts: &[Part],
+) -> Result<Leaf, ResolveFault>
+    ensures { Gives result (paths.along (setting_of setting.now) behind.now (place_of place.entry) (roots.bare root) parts.now) }
+{
+    let mut prefix = bare(alloc, root);
+    let end = along(alloc, setting, behind, place, &mut prefix, parts);
+    let (prefix, (name, reading)) = with(prefix, end)?;
+    Ok(leaf_read(prefix, name, reading)?)
+}
+
+/// Nothing stands behind what has no names.
+fn no_part(alloc: Global, parts: &[Part]) -> Result<(), ResolveFault>
+    ensures { Gives result (roots.no_part parts.now) }
 {
     match parts {
-        [] => Ok(leaf),
+        [] => Ok(()),
         [part, ..] => Err(no_field(alloc, part.name.as_str())),
     }
 }
@@ -67,18 +86,21 @@ fn request_path(
     behind: &str,
     parts: &[Part],
 ) -> Result<Leaf, ResolveFault>
-    ensures { Gives result (requested_leaf which (setting_of setting.now) behind.now parts.now) }
+    ensures { Gives result (roots.request_path which (setting_of setting.now) behind.now parts.now) }
 {
     match which {
-        Requested::Context => alone(alloc, Leaf::Context, parts),
-        Requested::Method => alone(alloc, Leaf::Method, parts),
+        Requested::Context => {
+            no_part(alloc, parts)?;
+            Ok(Leaf::Context)
+        }
+        Requested::Method => {
+            no_part(alloc, parts)?;
+            Ok(Leaf::Method)
+        }
         Requested::Headers => header(alloc, setting, behind, parts),
         Requested::Query => query(alloc, setting, behind, parts),
         Requested::Body => sent_field(alloc, setting, behind, parts),
-        Requested::Auth => {
-            let prefix = bare(alloc, Root::Auth);
-            along(alloc, setting, behind, Place::Caller, prefix, parts)
-        }
+        Requested::Auth => path_from(alloc, setting, Root::Auth, behind, Place::Caller, parts),
     }
 }
 
@@ -90,7 +112,7 @@ fn of_request(
     first: &Part,
     parts: &[Part],
 ) -> Result<Leaf, ResolveFault>
-    ensures { Gives result (request_leaf (setting_of setting.now) first.now parts.now) }
+    ensures { Gives result (roots.of_request (setting_of setting.now) first.now parts.now) }
 {
     no_suffix(setting, first)?;
     let [second, rest @ ..] = parts else {
@@ -114,6 +136,14 @@ fn alias(alloc: Global, suffix: Option<&Text>) -> Result<Text, AllocError>
     }
 }
 
+/// The root of a look-up into a collection, under an alias.
+fn look(alloc: Global, name: &Name, suffix: Option<&Text>) -> Result<Root, AllocError>
+    ensures { IfOk result (λ found. found ≡ root.Look name.now (unwrap_or (option_copied suffix.entry) [])) }
+{
+    let (alias, name) = with(alias(alloc, suffix)?, name.clone())?;
+    Ok(Root::Look(name, alias))
+}
+
 /// `@collection` and the parts behind it.
 #[tactic(auto, unfolding(crate::specs::Roots::of_collection))]
 fn of_collection(
@@ -122,7 +152,7 @@ fn of_collection(
     first: &Part,
     parts: &[Part],
 ) -> Result<Leaf, ResolveFault>
-    ensures { Gives result (collection_leaf (setting_of setting.now) first.now parts.now) }
+    ensures { Gives result (roots.of_collection (setting_of setting.now) first.now parts.now) }
 {
     no_suffix(setting, first)?;
     let [second, rest @ ..] = parts else {
@@ -132,9 +162,8 @@ fn of_collection(
     let Some(collection) = collection_named(setting.collections, name) else {
         return Err(no_collection(alloc, name));
     };
-    let alias = alias(alloc, second.suffix.as_ref())?;
-    let prefix = bare(alloc, Root::Look(collection.name.clone()?, alias));
-    along(alloc, setting, name, Place::Of(collection), prefix, rest)
+    let root = look(alloc, &collection.name, second.suffix.as_ref())?;
+    path_from(alloc, setting, root, name, Place::Of(collection), rest)
 }
 
 /// A macro.
@@ -145,18 +174,19 @@ fn of_macro(
     first: &Part,
     parts: &[Part],
 ) -> Result<Leaf, ResolveFault>
-    ensures { Gives result (macro_leaf (setting_of setting.now) first.now parts.now) }
+    ensures { Gives result (roots.of_macro (setting_of setting.now) first.now parts.now) }
 {
     let Some(which) = macro_named(first.name.as_str()) else {
         return Err(no_field(alloc, first.name.as_str()));
     };
     no_suffix(setting, first)?;
-    alone(alloc, Leaf::Macro(which), parts)
+    no_part(alloc, parts)?;
+    Ok(Leaf::Macro(which))
 }
 
 /// Whether a path with `@` begins with `request` or `collection`.
 fn is_privileged(parts: &[Part]) -> bool
-    ensures { result ≡ privileged parts.now }
+    ensures { result ≡ roots.is_privileged parts.now }
 {
     match parts {
         [] => false,
@@ -172,7 +202,7 @@ fn of_first(
     first: &Part,
     parts: &[Part],
 ) -> Result<Leaf, ResolveFault>
-    ensures { Gives result (first_leaf (setting_of setting.now) first.now parts.now) }
+    ensures { Gives result (roots.of_first (setting_of setting.now) first.now parts.now) }
 {
     let name = first.name.as_str();
     if name == "request" {
@@ -187,7 +217,7 @@ fn of_first(
 /// A path behind `@`.
 #[tactic(auto, unfolding(crate::specs::Roots::of_sign))]
 fn of_sign(alloc: Global, setting: &Setting<'_>, parts: &[Part]) -> Result<Leaf, ResolveFault>
-    ensures { Gives result (sign_leaf (setting_of setting.now) parts.now) }
+    ensures { Gives result (roots.of_sign (setting_of setting.now) parts.now) }
 {
     match parts {
         [] => Err(no_field(alloc, "")),
@@ -203,12 +233,11 @@ fn of_path(
     sign: bool,
     parts: &[Part],
 ) -> Result<Leaf, ResolveFault>
-    ensures { Gives result (path_leaf (setting_of setting.now) sign parts.now) }
+    ensures { Gives result (roots.of_path (setting_of setting.now) sign parts.now) }
 {
     if !sign {
         let home = place_named(setting.collections, setting.home.as_str());
-        let prefix = bare(alloc, Root::Home);
-        return along(alloc, setting, "", home, prefix, parts);
+        return path_from(alloc, setting, Root::Home, "", home, parts);
     }
     if setting.guarded && is_privileged(parts) {
         return Err(ResolveFault::SuperuserOnly(setting.operand));
@@ -219,7 +248,7 @@ fn of_path(
 /// One side of a comparison.
 #[tactic(auto, unfolding(crate::specs::Roots::side))]
 pub fn side(alloc: Global, setting: &Setting<'_>, operand: &Operand) -> Result<Leaf, ResolveFault>
-    ensures { Gives result (side_leaf (setting_of setting.now) operand.now) }
+    ensures { Gives result (roots.side (setting_of setting.now) operand.now) }
 {
     match operand {
         Operand::Ident { sign, parts } => of_path(alloc, setting, *sign, parts.as_slice()),

@@ -1,9 +1,7 @@
 // Where a path stands, and what it is resolved against.
-ghost use Rattle.std.specs.Prelude.{◌≡◌, option_map};
+ghost use Rattle.std.specs.Prelude.{◌≡◌};
 ghost use Rattle.std.specs.Option.{option_copied};
-ghost use Rattle.pocket_resolve.specs.Fields.{auth_field as named_auth_field, is_like as like, caller_field as agreed_field};
-ghost use Rattle.pocket_resolve.specs.Paths.{place_named as named_place, has_built_in as built_in, field_at as named_field_at, may_stand_in, leads_to};
-ghost use Rattle.pocket_resolve.specs.Paths as path;
+ghost use Rattle.pocket_resolve.specs.Paths as paths;
 ghost use Rattle.pocket_resolve.specs.Seen.{place_of};
 
 use crate::fields::{caller_field, collection_named, field_named};
@@ -37,7 +35,7 @@ pub enum Place<'a> {
 
 /// The place of a collection's records.
 pub fn place_named<'a>(collections: &'a [Collection], name: &str) -> Place<'a>
-    ensures { place_of result ≡ named_place collections.now name.now }
+    ensures { place_of result ≡ paths.place_named collections.now name.now }
 {
     match collection_named(collections, name) {
         Some(collection) => Place::Of(collection),
@@ -47,7 +45,7 @@ pub fn place_named<'a>(collections: &'a [Collection], name: &str) -> Place<'a>
 
 /// Whether a name is one that every record of a place has.
 pub fn has_built_in(place: Place<'_>, name: &str) -> bool
-    ensures { result ≡ built_in (place_of place.entry) name.now }
+    ensures { result ≡ paths.has_built_in (place_of place.entry) name.now }
 {
     match place {
         Place::Nowhere => false,
@@ -61,7 +59,7 @@ pub fn field_at<'a>(
     place: Place<'a>,
     name: &str,
 ) -> Option<&'a Field>
-    ensures { option_copied result ≡ named_field_at collections.now (place_of place.entry) name.now }
+    ensures { option_copied result ≡ paths.field_at collections.now (place_of place.entry) name.now }
 {
     match place {
         Place::Of(collection) => field_named(collection, name),
@@ -71,14 +69,14 @@ pub fn field_at<'a>(
 }
 
 fn is_auth_named(collections: &[Collection], name: &Name) -> bool
-    ensures { result ≡ may_stand_in collections.now path.Caller name.now }
+    ensures { result ≡ paths.may_stand_in collections.now paths.Caller name.now }
 {
     collections.iter().any(|collection| collection.is_auth && collection.name == *name)
 }
 
 /// Whether records of a place may stand in a collection.
 fn may_be_in(collections: &[Collection], place: Place<'_>, name: &Name) -> bool
-    ensures { result ≡ may_stand_in collections.now (place_of place.entry) name.now }
+    ensures { result ≡ paths.may_stand_in collections.now (place_of place.entry) name.now }
 {
     match place {
         Place::Of(collection) => collection.name == *name,
@@ -89,7 +87,7 @@ fn may_be_in(collections: &[Collection], place: Place<'_>, name: &Name) -> bool
 
 /// Whether a field is a relation to records of a place.
 pub fn is_relation_to(collections: &[Collection], place: Place<'_>, kind: &Kind) -> bool
-    ensures { result ≡ leads_to collections.now (place_of place.entry) kind.now }
+    ensures { result ≡ paths.leads_to collections.now (place_of place.entry) kind.now }
 {
     match kind.target() {
         Some(name) => may_be_in(collections, place, name),

@@ -1,16 +1,18 @@
 // How many different prefixes a filter has.
 ghost use Rattle.std.specs.Prelude.{◌≡◌, ◌≤◌, IfOk, length, fold, flat_map, count_by};
 ghost use Rattle.pocket_types.specs.Paths.{with_prefix, begun};
-ghost use Rattle.pocket_resolve.specs.Filters.{filter_prefixes, is_counted as counted, has_too_many as too_many};
+ghost use Rattle.pocket_types.specs.declared.faults.ResolveFault.TheVariants as fault;
+ghost use Rattle.pocket_resolve.specs.Answers.{Gives, refuse};
+ghost use Rattle.pocket_resolve.specs.Filters as filters;
 
-use pocket_types::{Prefix, Resolved, Root};
+use pocket_types::{Prefix, ResolveFault, Resolved, Root};
 use std::alloc::{AllocError, Global};
 
 const MAX_PREFIXES: usize = 12;
 
 /// Whether a prefix counts: the record itself, the caller's record and the body don't.
 fn is_counted(prefix: &Prefix) -> bool
-    ensures { result ≡ counted prefix.now }
+    ensures { result ≡ filters.is_counted prefix.now }
 {
     match prefix.root {
         Root::Look(..) => true,
@@ -19,7 +21,7 @@ fn is_counted(prefix: &Prefix) -> bool
 }
 
 fn count(prefixes: &[Prefix]) -> usize
-    ensures value { result ≡ count_by counted prefixes.now }
+    ensures value { result ≡ count_by filters.is_counted prefixes.now }
     ensures within { result ≤ length prefixes.now }
 {
     match prefixes {
@@ -37,7 +39,7 @@ fn count(prefixes: &[Prefix]) -> usize
 
 /// Adds the prefixes of a filter's sides to those that were found.
 fn add_prefixes(found: &mut Vec<Prefix>, filter: &Resolved) -> Result<(), AllocError>
-    ensures { IfOk result (λ _. found.new.items ≡ fold with_prefix found.old.items (flat_map begun (filter_prefixes filter.now))) }
+    ensures { IfOk result (λ _. found.new.items ≡ fold with_prefix found.old.items (flat_map begun (filters.filter_prefixes filter.now))) }
 {
     match filter {
         Resolved::Test { left, right, .. } => {
@@ -51,11 +53,14 @@ fn add_prefixes(found: &mut Vec<Prefix>, filter: &Resolved) -> Result<(), AllocE
     }
 }
 
-/// Whether a filter has too many different prefixes.
-pub fn has_too_many(alloc: Global, filter: &Resolved) -> Result<bool, AllocError>
-    ensures { IfOk result (λ b. b ≡ too_many filter.now) }
+/// Refuses a filter with too many different prefixes.
+pub fn few_prefixes(alloc: Global, filter: &Resolved) -> Result<(), ResolveFault>
+    ensures { Gives result (refuse (filters.has_too_many filter.now) fault.TooManyPrefixes) }
 {
     let mut found = Vec::new(alloc);
     add_prefixes(&mut found, filter)?;
-    Ok(count(found.as_slice()) > MAX_PREFIXES)
+    if count(found.as_slice()) > MAX_PREFIXES {
+        return Err(ResolveFault::TooManyPrefixes);
+    }
+    Ok(())
 }

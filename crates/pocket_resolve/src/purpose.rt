@@ -1,7 +1,7 @@
 use pocket_types::Name;
 
 /// What a filter is resolved for.
-#[derive(Debug, Drop)]
+#[derive(Drop)]
 pub enum Purpose {
     /// A rule of a collection.
     RuleOf(Name),

@@ -2,7 +2,7 @@
 ghost use Rattle.std.specs.Prelude.{◌≡◌, IfOk, [], ◌∷◌};
 ghost use Rattle.std.specs.Option.{option_copied};
 ghost use Rattle.pocket_resolve.specs.Answers.{Gives, GivesAs};
-ghost use Rattle.pocket_resolve.specs.Roots.{value_modifier as modifier_of_value, value_name as name_of_value, header as header_leaf, query as query_leaf, body_field as home_field, body_reading as reading_of_body, body_leaf as leaf_of_body, sent_end as end_sent, sent_on as sent_further, sent_field as field_sent};
+ghost use Rattle.pocket_resolve.specs.Roots as roots;
 ghost use Rattle.pocket_resolve.specs.Seen.{setting_of};
 
 use crate::ends::{Reading, reading_of};
@@ -19,7 +19,7 @@ use std::alloc::{AllocError, Global};
 /// What is taken of a header or a part of the query.
 #[tactic(auto, unfolding(crate::specs::Roots::value_modifier))]
 fn value_modifier(suffix: Option<&Text>) -> Option<Modifier>
-    ensures { result ≡ modifier_of_value (option_copied suffix.entry) }
+    ensures { result ≡ roots.value_modifier (option_copied suffix.entry) }
 {
     let Some(suffix) = suffix else {
         return Some(Modifier::Plain);
@@ -39,7 +39,7 @@ fn value_name<'a>(
     behind: &str,
     parts: &'a [Part],
 ) -> Result<(&'a Text, Modifier), ResolveFault>
-    ensures { GivesAs (λ found. (found.0.now, found.1)) result (name_of_value (setting_of setting.now) behind.now parts.now) }
+    ensures { GivesAs (λ found. (found.0.now, found.1)) result (roots.value_name (setting_of setting.now) behind.now parts.now) }
 {
     match parts {
         [] => Err(no_field(alloc, behind)),
@@ -62,7 +62,7 @@ pub fn header(
     behind: &str,
     parts: &[Part],
 ) -> Result<Leaf, ResolveFault>
-    ensures { Gives result (header_leaf (setting_of setting.now) behind.now parts.now) }
+    ensures { Gives result (roots.header (setting_of setting.now) behind.now parts.now) }
 {
     let (name, modifier) = value_name(alloc, setting, behind, parts)?;
     Ok(Leaf::Header(name.clone()?, modifier))
@@ -76,7 +76,7 @@ pub fn query(
     behind: &str,
     parts: &[Part],
 ) -> Result<Leaf, ResolveFault>
-    ensures { Gives result (query_leaf (setting_of setting.now) behind.now parts.now) }
+    ensures { Gives result (roots.query (setting_of setting.now) behind.now parts.now) }
 {
     let (name, modifier) = value_name(alloc, setting, behind, parts)?;
     Ok(Leaf::Query(name.clone()?, modifier))
@@ -84,7 +84,7 @@ pub fn query(
 
 /// A field of the home collection.
 fn body_field<'a>(setting: &Setting<'a>, name: &str) -> Option<&'a Field>
-    ensures { option_copied result ≡ home_field (setting_of setting.now) name.now }
+    ensures { option_copied result ≡ roots.body_field (setting_of setting.now) name.now }
 {
     if is_built_in(name) {
         return None;
@@ -96,7 +96,7 @@ fn body_field<'a>(setting: &Setting<'a>, name: &str) -> Option<&'a Field>
 /// The reading of a sent field of a kind under a suffix.
 #[tactic(auto, unfolding(crate::specs::Roots::body_reading))]
 fn body_reading(any: bool, kind: &Kind, suffix: Option<&Text>) -> Option<Reading>
-    ensures { result ≡ reading_of_body any kind.now (option_copied suffix.entry) }
+    ensures { result ≡ roots.body_reading any kind.now (option_copied suffix.entry) }
 {
     match suffix {
         Some(text) if text.as_str() == "isset" => Some(Reading::As(Modifier::Isset)),
@@ -106,7 +106,7 @@ fn body_reading(any: bool, kind: &Kind, suffix: Option<&Text>) -> Option<Reading
 
 /// A sent field, as it is read.
 fn body_leaf(alloc: Global, name: Name, reading: Reading) -> Result<Leaf, AllocError>
-    ensures { IfOk result (λ leaf. leaf ≡ leaf_of_body name reading) }
+    ensures { IfOk result (λ leaf. leaf ≡ roots.body_leaf name reading) }
 {
     match reading {
         Reading::As(modifier) => Ok(Leaf::Body(name, modifier)),
@@ -124,7 +124,7 @@ fn body_leaf(alloc: Global, name: Name, reading: Reading) -> Result<Leaf, AllocE
 /// A sent field at the end.
 #[tactic(auto, unfolding(crate::specs::Roots::sent_end))]
 fn sent_end(alloc: Global, setting: &Setting<'_>, part: &Part) -> Result<Leaf, ResolveFault>
-    ensures { Gives result (end_sent (setting_of setting.now) part.now) }
+    ensures { Gives result (roots.sent_end (setting_of setting.now) part.now) }
 {
     let Some(field) = body_field(setting, part.name.as_str()) else {
         return Err(no_field(alloc, part.name.as_str()));
@@ -143,7 +143,7 @@ fn sent_on(
     part: &Part,
     next: &Part,
 ) -> Result<Leaf, ResolveFault>
-    ensures { Gives result (sent_further (setting_of setting.now) part.now next.now) }
+    ensures { Gives result (roots.sent_on (setting_of setting.now) part.now next.now) }
 {
     let Some(field) = body_field(setting, part.name.as_str()) else {
         return Err(no_field(alloc, part.name.as_str()));
@@ -163,7 +163,7 @@ pub fn sent_field(
     behind: &str,
     parts: &[Part],
 ) -> Result<Leaf, ResolveFault>
-    ensures { Gives result (field_sent (setting_of setting.now) behind.now parts.now) }
+    ensures { Gives result (roots.sent_field (setting_of setting.now) behind.now parts.now) }
 {
     match parts {
         [] => Err(no_field(alloc, behind)),

@@ -1,7 +1,7 @@
 // The parts of a path before the last: steps over relations.
 ghost use Rattle.std.specs.Prelude.{◌≡◌};
 ghost use Rattle.pocket_resolve.specs.Answers.{Gives, GivesAs};
-ghost use Rattle.pocket_resolve.specs.Paths.{no_suffix as has_no_suffix, may_see as can_see, may_step as can_step, forward as forward_step, back_relation as relation_back, backward as backward_step, one_step as step_of};
+ghost use Rattle.pocket_resolve.specs.Paths as paths;
 ghost use Rattle.pocket_resolve.specs.Seen.{setting_of, place_of, moved_to};
 
 use crate::faults::{hidden_field, no_collection, no_field, not_relation};
@@ -15,7 +15,7 @@ const MAX_STEPS: usize = 6;
 
 /// A suffix has no place here.
 pub fn no_suffix(setting: &Setting<'_>, part: &Part) -> Result<(), ResolveFault>
-    ensures { result ≡ has_no_suffix (setting_of setting.now) part.now }
+    ensures { result ≡ paths.no_suffix (setting_of setting.now) part.now }
 {
     match part.suffix {
         Some(_) => Err(ResolveFault::BadModifier(setting.operand)),
@@ -25,7 +25,7 @@ pub fn no_suffix(setting: &Setting<'_>, part: &Part) -> Result<(), ResolveFault>
 
 /// Refuses a hidden field of a guarded filter.
 pub fn may_see(alloc: Global, setting: &Setting<'_>, field: &Field) -> Result<(), ResolveFault>
-    ensures { Gives result (can_see (setting_of setting.now) field.now) }
+    ensures { Gives result (paths.may_see (setting_of setting.now) field.now) }
 {
     if setting.guarded && field.hidden {
         return Err(hidden_field(alloc, field.name.as_str()));
@@ -42,7 +42,7 @@ fn may_step(
     part: &Part,
     field: &Field,
 ) -> Result<(), ResolveFault>
-    ensures { Gives result (can_step (setting_of setting.now) taken part.now field.now) }
+    ensures { Gives result (paths.may_step (setting_of setting.now) taken part.now field.now) }
 {
     no_suffix(setting, part)?;
     if taken >= MAX_STEPS {
@@ -60,7 +60,7 @@ fn forward<'a>(
     taken: usize,
     part: &Part,
 ) -> Result<(Step, Place<'a>), ResolveFault>
-    ensures { GivesAs moved_to result (forward_step (setting_of setting.now) (place_of place.entry) taken part.now) }
+    ensures { GivesAs moved_to result (paths.forward (setting_of setting.now) (place_of place.entry) taken part.now) }
 {
     let name = part.name.as_str();
     if has_built_in(place, name) {
@@ -86,7 +86,7 @@ pub fn back_relation<'a>(
     from: &str,
     name: &str,
 ) -> Result<(&'a Collection, &'a Field), ResolveFault>
-    ensures { GivesAs (λ found. (found.0.now, found.1.now)) result (relation_back (setting_of setting.now) (place_of place.entry) from.now name.now) }
+    ensures { GivesAs (λ found. (found.0.now, found.1.now)) result (paths.back_relation (setting_of setting.now) (place_of place.entry) from.now name.now) }
 {
     let Some(collection) = collection_named(setting.collections, from) else {
         return Err(no_collection(alloc, from));
@@ -114,7 +114,7 @@ fn backward<'a>(
     from: &str,
     name: &str,
 ) -> Result<(Step, Place<'a>), ResolveFault>
-    ensures { GivesAs moved_to result (backward_step (setting_of setting.now) (place_of place.entry) taken part.now from.now name.now) }
+    ensures { GivesAs moved_to result (paths.backward (setting_of setting.now) (place_of place.entry) taken part.now from.now name.now) }
 {
     let (collection, field) = back_relation(alloc, setting, place, from, name)?;
     may_step(alloc, setting, taken, part, field)?;
@@ -131,7 +131,7 @@ pub fn one_step<'a>(
     taken: usize,
     part: &Part,
 ) -> Result<(Step, Place<'a>), ResolveFault>
-    ensures { GivesAs moved_to result (step_of (setting_of setting.now) (place_of place.entry) taken part.now) }
+    ensures { GivesAs moved_to result (paths.one_step (setting_of setting.now) (place_of place.entry) taken part.now) }
 {
     let name = part.name.as_str();
     if let Place::Nowhere = place {
