@@ -5,7 +5,8 @@ use Rattle.pocket_meaning.specs.declared.members.Member.TheVariants as lent
 use Rattle.pocket_meaning.specs.declared.members.Chosen.{Chosen}
 use Rattle.pocket_meaning.specs.declared.members.Scene.{Scene}
 use Rattle.pocket_meaning.specs.Members as member
-use Rattle.pocket_meaning.specs.Choices.{Choice, Sight, sight}
+use Rattle.pocket_meaning.specs.Sights.{Sight, sight}
+use Rattle.pocket_meaning.specs.Choices.{Choice}
 
 -- the member that a borrowed one stands for
 abbrev pub seen : Member → member.Member

@@ -7,7 +7,8 @@ ghost use Rattle.pocket_ops.specs.Dates.{date_text as text_of_moment};
 ghost use Rattle.pocket_meaning.specs.Choices.{chosen};
 ghost use Rattle.pocket_meaning.specs.Related.{field_at};
 ghost use Rattle.pocket_meaning.specs.Seen.{seen, choice_of, sight_of};
-ghost use Rattle.pocket_meaning.specs.Values.{modified, field_value, member_value, item_value, context_text, method_text, pair_value, sent_value, value_of};
+ghost use Rattle.pocket_meaning.specs.Sights.{sent_value, value_of};
+ghost use Rattle.pocket_meaning.specs.Values.{modified, field_value, member_value, item_value, context_text, method_text, pair_value};
 
 use crate::choices::member_chosen;
 use crate::members::{Chosen, Member, Scene};
