@@ -168,7 +168,7 @@ fn pair_value_of(
 /// The value of a sent field, under a modifier.
 fn sent_cell_value(
     alloc: Global,
-    scene: &Scene<'_>,
+    scene: &Scene<'_, '_>,
     name: &Name,
     modifier: Modifier,
 ) -> Result<Value, AllocError>
@@ -183,7 +183,7 @@ fn sent_cell_value(
 /// A sent field, under a modifier.
 fn sent_value_of(
     alloc: Global,
-    scene: &Scene<'_>,
+    scene: &Scene<'_, '_>,
     name: &Name,
     modifier: Modifier,
 ) -> Result<Value, AllocError>
@@ -204,7 +204,7 @@ fn member_at<'w>(choice: &[Chosen<'_, 'w>], prefix: &Prefix) -> Member<'w>
 /// The value of a side of a comparison under a choice.
 pub fn value_under(
     alloc: Global,
-    scene: &Scene<'_>,
+    scene: &Scene<'_, '_>,
     choice: &[Chosen<'_, '_>],
     side: &Leaf,
 ) -> Result<Value, AllocError>
