@@ -16,11 +16,11 @@ use Rattle.pocket_meaning.specs.Members as member
 use Rattle.pocket_types.specs.Paths.{same_prefix, begun, with_prefix, with_parents, prefixes_of}
 use Rattle.pocket_types.specs.Inductions.{resolved_induction}
 use Rattle.pocket_meaning.specs.Prefixes.{any_prefixes}
-use Rattle.pocket_meaning.specs.Choices.{Choice, Sight, chosen, parent, last_step, seen_from, related, or_nobody, choices_from}
+use Rattle.pocket_meaning.specs.Sights.{Sight, value_of}
+use Rattle.pocket_meaning.specs.Choices.{Choice, chosen, parent, last_step, seen_from, related, or_nobody, choices_from}
 use Rattle.pocket_meaning.specs.Choosing.{IsIn}
 use Rattle.pocket_meaning.specs.Carrying.{Names, Carries, sides_of}
 use Rattle.pocket_meaning.specs.Meaning.{test_under, test_always, true_under, true_in}
-use Rattle.pocket_meaning.specs.Values.{value_of}
 use Rattle.pocket_ops.specs.Comparison.{compare_values}
 use Rattle.pocket_meaning.proofs.Layers.{true-any, true-plain, true-and, true-or, prefixes-any, prefixes-plain, prefixes-and, prefixes-or, sides-test, sides-and, sides-or}
 use Rattle.pocket_meaning.proofs.MeaningLemmas.{list_any-map}

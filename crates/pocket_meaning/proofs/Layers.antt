@@ -10,7 +10,8 @@ use Rattle.pocket_types.specs.declared.resolved.Resolved.{Resolved}
 use Rattle.pocket_types.specs.declared.resolved.Resolved.TheVariants as made
 use Rattle.pocket_meaning.specs.Members.{Member}
 use Rattle.pocket_meaning.specs.Prefixes.{any_prefixes, any_prefixes_of}
-use Rattle.pocket_meaning.specs.Choices.{Sight, chosen, choices}
+use Rattle.pocket_meaning.specs.Sights.{Sight}
+use Rattle.pocket_meaning.specs.Choices.{chosen, choices}
 use Rattle.pocket_meaning.specs.Carrying.{sides_of, sides_in}
 use Rattle.pocket_meaning.specs.Meaning.{test_under, test_always, truth_of, true_under, true_in}
 use Rattle.pocket_meaning.proofs.MeaningLemmas.{list_any-one}

@@ -3,6 +3,7 @@ pub mod ChoiceLemmas
 pub mod MeaningLemmas
 pub mod Layers
 pub mod Picks
+pub mod Orders
 pub mod CarriedOver
 pub mod Somebody
 pub mod Sights

@@ -9,7 +9,8 @@ use Rattle.std.proofs.lemmas.List.Folds.{list_any-append, list_all-append, list_
 use Rattle.std.proofs.lemmas.Bool.{or_from, and_from}
 use Rattle.pocket_types.specs.declared.resolved.Prefix.{Prefix}
 use Rattle.pocket_meaning.specs.Members.{Member}
-use Rattle.pocket_meaning.specs.Choices.{Choice, Sight, choices_from, related, or_nobody}
+use Rattle.pocket_meaning.specs.Sights.{Sight}
+use Rattle.pocket_meaning.specs.Choices.{Choice, choices_from, related, or_nobody}
 use Rattle.pocket_types.proofs.PathLemmas.{take_one_more}
 
 pub list_any-flat_map : {X Y : Type 0} (p : Y → Bool) (f : X → List Y) (xs : List X) → list_any p (flat_map f xs) ≡ list_any (λ x. list_any p (f x)) xs

@@ -19,10 +19,11 @@ use Rattle.pocket_meaning.specs.Members as member
 use Rattle.pocket_types.specs.Paths.{same_root, same_step, same_prefix, begun, with_prefix, with_parents, prefixes_of}
 use Rattle.pocket_types.specs.Inductions.{resolved_induction}
 use Rattle.pocket_meaning.specs.Prefixes.{any_prefixes}
-use Rattle.pocket_meaning.specs.Choices.{Choice, Sight, chosen, parent, last_step, seen_from, related, or_nobody, choices, choices_from}
-use Rattle.pocket_meaning.specs.Choosing.{IsIn, IsChoice, Holds, bare, then_step}
+use Rattle.pocket_meaning.specs.Sights.{Sight, value_of}
+use Rattle.pocket_meaning.specs.Choices.{Choice, chosen, parent, last_step, seen_from, related, or_nobody, choices, choices_from}
+use Rattle.pocket_meaning.specs.Choosing.{IsIn, IsChoice, Holds, bare, then_step, chosen_prefixes, among, HasAll, AreParentsFirst, Agrees, IsStart}
 use Rattle.pocket_meaning.specs.Meaning.{test_under, test_always, true_under, true_in}
-use Rattle.pocket_meaning.specs.Values.{value_of, member_value, item_value}
+use Rattle.pocket_meaning.specs.Values.{item_value}
 use Rattle.pocket_ops.specs.Comparison.{compare_values}
 use Rattle.pocket_types.specs.declared.expr.Op.{Op}
 use Rattle.pocket_types.specs.declared.resolved.Leaf.{Leaf}
@@ -200,37 +201,25 @@ fine_more s d p m fine r picked q h =
           subst P is (λ fresh. (rooted_kept d e p r, subst (λ x. IsIn x (or_nobody (related s (d ++ e) p))) (sym (chosen_new d p m fresh)) (subst (λ l. IsIn m (or_nobody l)) (sym (related_kept s d e p r)) picked))) new)
     ]
 
--- the prefixes of a choice
-abbrev pub among : List Prefix → Prefix → Bool
-among ps q = list_any (λ x. same_prefix x q) ps
-
-abbrev pub firsts : Choice → List Prefix
-firsts = map (λ x. x.0)
-
-pub has_firsts : (d : Choice) (q : Prefix) → has d q ≡ among (firsts d) q
+pub has_firsts : (d : Choice) (q : Prefix) → has d q ≡ among (chosen_prefixes d) q
 has_firsts [] q = refl
 has_firsts (x ∷ d) q = ap (λ b. same_prefix x.0 q || b) (has_firsts d q)
 
--- the parent of each prefix of the list stands before it
-abbrev pub Ready : List Prefix → List Prefix → Type 0
-Ready done [] = Unit {0}
-Ready done (p ∷ ps) = Rooted (among done) p × Ready (done ++ p ∷ []) ps
-
-rooted_firsts : (d : Choice) (p : Prefix) → Rooted (among (firsts d)) p → Rooted (has d) p
+rooted_firsts : (d : Choice) (p : Prefix) → Rooted (among (chosen_prefixes d)) p → Rooted (has d) p
 rooted_firsts d p r = elim r [ inl n ↦ inl n | inr h ↦ inr (has_firsts d (parent p) ∙ h) ]
 
 -- each choice of the list is fine, and has all the prefixes
-pub choices_fine : (s : Sight) (ps : List Prefix) (d : Choice) → Fine s d → Ready (firsts d) ps → (e : Choice) → IsIn e (choices_from s ps d) → Fine s e × ((q : Prefix) → among (firsts d ++ ps) q ≡ true → has e q ≡ true)
+pub choices_fine : (s : Sight) (ps : List Prefix) (d : Choice) → Fine s d → AreParentsFirst (chosen_prefixes d) ps → (e : Choice) → IsIn e (choices_from s ps d) → Fine s e × ((q : Prefix) → among (chosen_prefixes d ++ ps) q ≡ true → has e q ≡ true)
 choices_fine s [] d fine ready e h =
     let is : e ≡ d = elim h [ inl k ↦ k | inr k ↦ absurd k ] in
-    let P : Choice → Type 0 = λ x. Fine s x × ((q : Prefix) → among (firsts d ++ []) q ≡ true → has x q ≡ true) in
-    subst P (sym is) (fine, λ q g. has_firsts d q ∙ ap (λ l. among l q) (sym (append-nil (firsts d))) ∙ g)
+    let P : Choice → Type 0 = λ x. Fine s x × ((q : Prefix) → among (chosen_prefixes d ++ []) q ≡ true → has x q ≡ true) in
+    subst P (sym is) (fine, λ q g. has_firsts d q ∙ ap (λ l. among l q) (sym (append-nil (chosen_prefixes d))) ∙ g)
 choices_fine s (p ∷ ps) d fine ready e h =
     let f : Member → List Choice = λ m. choices_from s ps (d ++ (p, m) ∷ []) in
     let r = in_flat_map f (or_nobody (related s d p)) e h in
-    let firsts_more : firsts (d ++ (p, r.0) ∷ []) ≡ firsts d ++ p ∷ [] = map-append (λ (x : Prefix × Member). x.0) d ((p, r.0) ∷ []) in
-    let next = choices_fine s ps (d ++ (p, r.0) ∷ []) (fine_more s d p r.0 fine (rooted_firsts d p ready.0) r.1) (subst (λ l. Ready l ps) (sym firsts_more) ready.1) e r.2 in
-    (next.0, λ q g. next.1 q (ap (λ l. among (l ++ ps) q) firsts_more ∙ ap (λ l. among l q) (append_assoc (firsts d) (p ∷ []) ps) ∙ g))
+    let firsts_more : chosen_prefixes (d ++ (p, r.0) ∷ []) ≡ chosen_prefixes d ++ p ∷ [] = map-append (λ (x : Prefix × Member). x.0) d ((p, r.0) ∷ []) in
+    let next = choices_fine s ps (d ++ (p, r.0) ∷ []) (fine_more s d p r.0 fine (rooted_firsts d p ready.0) r.1) (subst (λ l. AreParentsFirst l ps) (sym firsts_more) ready.1) e r.2 in
+    (next.0, λ q g. next.1 q (ap (λ l. among (l ++ ps) q) firsts_more ∙ ap (λ l. among l q) (append_assoc (chosen_prefixes d) (p ∷ []) ps) ∙ g))
 
 -- the choice of all prefixes that agrees with a fine one
 abbrev pub first_of_list : List Member → Member
@@ -322,7 +311,7 @@ related_cut s c is ps p r =
           subst (λ l. IsIn (c (then_step q t)) (or_nobody l)) (sym from) (is.step q t))) r
     ]
 
-pub cut_in : (s : Sight) (c : Prefix → Member) → IsChoice s c → (done ps : List Prefix) → Ready done ps → IsIn (cut c (done ++ ps)) (choices_from s ps (cut c done))
+pub cut_in : (s : Sight) (c : Prefix → Member) → IsChoice s c → (done ps : List Prefix) → AreParentsFirst done ps → IsIn (cut c (done ++ ps)) (choices_from s ps (cut c done))
 cut_in s c is done [] ready = inl (ap (cut c) (append-nil done))
 cut_in s c is done (p ∷ ps) ready =
     let more : cut c (done ++ p ∷ []) ≡ cut c done ++ (p, c p) ∷ [] = map-append (λ (q : Prefix). (q, c q)) done (p ∷ []) in
@@ -332,21 +321,21 @@ cut_in s c is done (p ∷ ps) ready =
     (subst (λ d. IsIn (cut c (done ++ p ∷ ps)) (choices_from s ps d)) more (subst (λ l. IsIn (cut c l) (choices_from s ps (cut c (done ++ p ∷ [])))) (append_assoc done (p ∷ []) ps) next))
 
 -- the list of prefixes is ready, and has them all
-pub ready_more : (done ps : List Prefix) (p : Prefix) → Ready done ps → Rooted (among (done ++ ps)) p → Ready done (ps ++ p ∷ [])
+pub ready_more : (done ps : List Prefix) (p : Prefix) → AreParentsFirst done ps → Rooted (among (done ++ ps)) p → AreParentsFirst done (ps ++ p ∷ [])
 ready_more done [] p ready r = (subst (λ l. Rooted (among l) p) (append-nil done) r, tt)
 ready_more done (q ∷ ps) p ready r = (ready.0, ready_more (done ++ q ∷ []) ps p ready.1 (subst (λ l. Rooted (among l) p) (sym (append_assoc done (q ∷ []) ps)) r))
 
-among_one : (p : Prefix) → among (p ∷ []) p ≡ true
+pub among_one : (p : Prefix) → among (p ∷ []) p ≡ true
 among_one p = or_left (same_prefix p p) false (same_self p)
 
 abbrev put : Bool → List Prefix → Prefix → List Prefix
 put b ps p = cond b ps (ps ++ p ∷ [])
 
-pub ready_with : (ps : List Prefix) (p : Prefix) → Ready [] ps → Rooted (among ps) p → Ready [] (with_prefix ps p)
+pub ready_with : (ps : List Prefix) (p : Prefix) → AreParentsFirst [] ps → Rooted (among ps) p → AreParentsFirst [] (with_prefix ps p)
 ready_with ps p ready r =
     elim (true_or_false (list_any (same_prefix p) ps)) [
-      | inl h ↦ subst (λ b. Ready [] (put b ps p)) (sym h) ready
-      | inr h ↦ subst (λ b. Ready [] (put b ps p)) (sym h) (ready_more [] ps p ready r)
+      | inl h ↦ subst (λ b. AreParentsFirst [] (put b ps p)) (sym h) ready
+      | inr h ↦ subst (λ b. AreParentsFirst [] (put b ps p)) (sym h) (ready_more [] ps p ready r)
     ]
 
 pub among_kept : (ps : List Prefix) (p q : Prefix) → among ps q ≡ true → among (with_prefix ps p) q ≡ true
@@ -379,37 +368,37 @@ part_all p =
     let same : take (length p.steps) p.steps ≡ p.steps = grind (arith, common_steps) in
     ap made same
 
-pub begun_ready : (ps : List Prefix) (p : Prefix) → Ready [] ps → (k : ℕ) → k ≤ length p.steps → Ready [] (fold with_prefix ps (take (suc k) (begun p))) × (among (fold with_prefix ps (take (suc k) (begun p))) (part_of p k) ≡ true)
+pub begun_ready : (ps : List Prefix) (p : Prefix) → AreParentsFirst [] ps → (k : ℕ) → k ≤ length p.steps → AreParentsFirst [] (fold with_prefix ps (take (suc k) (begun p))) × (among (fold with_prefix ps (take (suc k) (begun p))) (part_of p k) ≡ true)
 begun_ready ps p ready zero h =
-    let Q : List Prefix → Type 0 = λ l. Ready [] l × (among l (part_of p 0) ≡ true) in
+    let Q : List Prefix → Type 0 = λ l. AreParentsFirst [] l × (among l (part_of p 0) ≡ true) in
     subst Q (sym (add_more ps p 0 h)) (ready_with ps (part_of p 0) ready (inl refl), among_put ps (part_of p 0))
 begun_ready ps p ready (suc k) h =
     let before = begun_ready ps p ready k (omega arith) in
     let l : List Prefix = fold with_prefix ps (take (suc k) (begun p)) in
-    let Q : List Prefix → Type 0 = λ l. Ready [] l × (among l (part_of p (suc k)) ≡ true) in
+    let Q : List Prefix → Type 0 = λ l. AreParentsFirst [] l × (among l (part_of p (suc k)) ≡ true) in
     subst Q (sym (add_more ps p (suc k) h)) (ready_with l (part_of p (suc k)) before.0 (inr (ap (among l) (parent_part p k h) ∙ before.1)), among_put l (part_of p (suc k)))
 
-pub begun_all_ready : (ps : List Prefix) (p : Prefix) → Ready [] ps → Ready [] (fold with_prefix ps (begun p)) × (among (fold with_prefix ps (begun p)) p ≡ true)
+pub begun_all_ready : (ps : List Prefix) (p : Prefix) → AreParentsFirst [] ps → AreParentsFirst [] (fold with_prefix ps (begun p)) × (among (fold with_prefix ps (begun p)) p ≡ true)
 begun_all_ready ps p ready =
     let r = begun_ready ps p ready (length p.steps) (omega arith) in
     let all : take (suc (length p.steps)) (begun p) ≡ begun p = ap (λ n. take n (begun p)) (sym (add-one (length p.steps))) ∙ begun-all p in
-    let Q : List Prefix → Type 0 = λ l. Ready [] (fold with_prefix ps l) × (among (fold with_prefix ps l) p ≡ true) in
+    let Q : List Prefix → Type 0 = λ l. AreParentsFirst [] (fold with_prefix ps l) × (among (fold with_prefix ps l) p ≡ true) in
     subst Q all (r.0, ap (among (fold with_prefix ps (take (suc (length p.steps)) (begun p)))) (sym (part_all p)) ∙ r.1)
 
-pub parents_ready : (qs ps : List Prefix) → Ready [] ps → Ready [] (fold with_prefix ps (flat_map begun qs)) × ((q : Prefix) → IsIn q qs → among (fold with_prefix ps (flat_map begun qs)) q ≡ true)
+pub parents_ready : (qs ps : List Prefix) → AreParentsFirst [] ps → AreParentsFirst [] (fold with_prefix ps (flat_map begun qs)) × ((q : Prefix) → IsIn q qs → among (fold with_prefix ps (flat_map begun qs)) q ≡ true)
 parents_ready [] ps ready = (ready, λ q h. absurd h)
 parents_ready (p ∷ qs) ps ready =
     let first = begun_all_ready ps p ready in
     let next : List Prefix = fold with_prefix ps (begun p) in
     let rest = parents_ready qs next first.0 in
     let same : fold with_prefix ps (begun p ++ flat_map begun qs) ≡ fold with_prefix next (flat_map begun qs) = fold-append with_prefix ps (begun p) (flat_map begun qs) in
-    let Q : List Prefix → Type 0 = λ l. Ready [] l × ((q : Prefix) → IsIn q (p ∷ qs) → among l q ≡ true) in
+    let Q : List Prefix → Type 0 = λ l. AreParentsFirst [] l × ((q : Prefix) → IsIn q (p ∷ qs) → among l q ≡ true) in
     subst Q (sym same) (rest.0, λ q h. elim h [ inl e ↦ ap (among (fold with_prefix next (flat_map begun qs))) e ∙ fold_kept (flat_map begun qs) next p first.1 | inr k ↦ rest.1 q k ])
 
 -- values and truth depend on the chosen members of the prefixes alone
 pub value_same : (s : Sight) (c d : Prefix → Member) (l : Leaf) → ((p : Prefix) → IsIn p (prefixes_of l) → c p ≡ d p) → value_of s c l ≡ value_of s d l
 value_same s c d (leaf.Fixed v) h = refl
-value_same s c d (leaf.Of p f m) h = ap (λ x. member_value x f m) (h p (inl refl))
+value_same s c d (leaf.Of p f m) h = ap (λ x. s.values x f m) (h p (inl refl))
 value_same s c d (leaf.ItemOf p) h = ap item_value (h p (inl refl))
 value_same s c d leaf.Context h = refl
 value_same s c d leaf.Method h = refl
@@ -435,30 +424,126 @@ truth_same s c d =
 nothing_fine : (s : Sight) → Fine s []
 nothing_fine s q h = cc
 
--- each choice of the list is, on its prefixes, a choice of all prefixes
-pub choice_from_list : (s : Sight) (ps : List Prefix) (e : Choice) → IsIn e (choices s ps) → (c : Prefix → Member) × IsChoice s c × ((q : Prefix) → IsIn q ps → c q ≡ chosen e q)
-choice_from_list s ps e h =
-    let ready = parents_ready ps [] tt in
-    let f = choices_fine s (with_parents ps) [] (nothing_fine s) ready.0 e h in
-    (total s e, total_is_choice s e f.0, λ q k. total_agrees s e q (f.1 q (ready.1 q k)))
+-- each choice of the list goes on from the one it began with
+pub choices_extend : (s : Sight) (ps : List Prefix) (d e : Choice) → IsIn e (choices_from s ps d) → (x : Choice) × (e ≡ d ++ x)
+choices_extend s [] d e h = elim h [ inl k ↦ ([], k ∙ sym (append-nil d)) | inr k ↦ absurd k ]
+choices_extend s (p ∷ ps) d e h =
+    let r = in_flat_map (λ m. choices_from s ps (d ++ (p, m) ∷ [])) (or_nobody (related s d p)) e h in
+    let x = choices_extend s ps (d ++ (p, r.0) ∷ []) e r.2 in
+    ((p, r.0) ∷ x.0, x.1 ∙ append_assoc d ((p, r.0) ∷ []) x.0)
 
--- each choice of all prefixes is, on these prefixes, one of the list
-pub choice_in_list : (s : Sight) (ps : List Prefix) (c : Prefix → Member) → IsChoice s c → (e : Choice) × IsIn e (choices s ps) × ((q : Prefix) → IsIn q ps → chosen e q ≡ c q)
-choice_in_list s ps c is =
-    let ready = parents_ready ps [] tt in
-    (cut c (with_parents ps), cut_in s c is [] (with_parents ps) ready.0, λ q k. chosen_cut c (with_parents ps) q (ready.1 q k))
+-- a list with parents first, cut in two
+first_parts : (before xs ys : List Prefix) → AreParentsFirst before (xs ++ ys) → AreParentsFirst before xs × AreParentsFirst (before ++ xs) ys
+first_parts before [] ys first = (tt, subst (λ l. AreParentsFirst l ys) (sym (append-nil before)) first)
+first_parts before (x ∷ xs) ys first =
+    let r = first_parts (before ++ x ∷ []) xs ys first.1 in
+    ((first.0, r.0), subst (λ l. AreParentsFirst l ys) (append_assoc before (x ∷ []) xs) r.1)
+
+pub among_left : (ps qs : List Prefix) (q : Prefix) → among ps q ≡ true → among (ps ++ qs) q ≡ true
+among_left ps qs q h = list_any-append (λ x. same_prefix x q) ps qs ∙ or_left (among ps q) (among qs q) h
+
+-- the parent of each of them stands in it
+parent_in : (before ps : List Prefix) → AreParentsFirst before ps → (q : Prefix) → among ps q ≡ true → Rooted (among (before ++ ps)) q
+parent_in before [] first q h = cc
+parent_in before (p ∷ ps) first q h =
+    elim (or_cases (same_prefix p q) (among ps q) h) [
+      | inl e ↦ subst (Rooted (among (before ++ p ∷ ps))) ((prefix_is p q).0 e) (elim first.0 [ inl n ↦ inl n | inr k ↦ inr (among_left before (p ∷ ps) (parent p) k) ])
+      | inr k ↦ subst (λ l. Rooted (among l) q) (append_assoc before (p ∷ []) ps) (parent_in (before ++ p ∷ []) ps first.1 q k)
+    ]
+
+-- what agrees with a choice of all prefixes is that choice, cut to some
+pub agrees_cut : (c : Prefix → Member) (d : Choice) → Agrees c d → d ≡ cut c (chosen_prefixes d)
+agrees_cut c [] a = refl
+agrees_cut c (x ∷ d) a =
+    let made : Member → Prefix × Member = λ m. (x.0, m) in
+    ap (λ z. z ∷ d) (ap made (sym a.0)) ∙ ap (λ l. (x.0, c x.0) ∷ l) (agrees_cut c d a.1)
+
+agrees_on : (c e : Prefix → Member) (d : Choice) → Agrees e d → ((q : Prefix) → among (chosen_prefixes d) q ≡ true → c q ≡ e q) → Agrees c d
+agrees_on c e [] a h = tt
+agrees_on c e (x ∷ d) a h =
+    (h x.0 (or_left (same_prefix x.0 x.0) (among (chosen_prefixes d) x.0) (same_self x.0)) ∙ a.0, agrees_on c e d a.1 (λ q k. h q (or_right (same_prefix x.0 q) (among (chosen_prefixes d) q) k)))
+
+has_cut : (c : Prefix → Member) (ps : List Prefix) (q : Prefix) → has (cut c ps) q ≡ among ps q
+has_cut c [] q = refl
+has_cut c (p ∷ ps) q = ap (λ b. same_prefix p q || b) (has_cut c ps q)
+
+cut_fine : (s : Sight) (c : Prefix → Member) → IsChoice s c → (ps : List Prefix) → AreParentsFirst [] ps → Fine s (cut c ps)
+cut_fine s c is ps first q h =
+    let stands : among ps q ≡ true = sym (has_cut c ps q) ∙ h in
+    let r = parent_in [] ps first q stands in
+    (elim r [ inl n ↦ inl n | inr k ↦ inr (has_cut c ps (parent q) ∙ k) ], subst (λ m. IsIn m (or_nobody (related s (cut c ps) q))) (sym (chosen_cut c ps q stands)) (related_cut s c is ps q r))
+
+-- each choice that goes on from a start is, on its prefixes, a choice of all prefixes that agrees with the start
+pub choice_from_list :
+    (s : Sight) (d : Choice) (ps : List Prefix) → AreParentsFirst [] (chosen_prefixes d ++ ps) → IsStart s d → (e : Choice) → IsIn e (choices_from s ps d)
+    → (c : Prefix → Member) × IsChoice s c × Agrees c d × ((q : Prefix) → among (chosen_prefixes d ++ ps) q ≡ true → c q ≡ chosen e q)
+choice_from_list s d ps first start e h =
+    let parts = first_parts [] (chosen_prefixes d) ps first in
+    let is : d ≡ cut start.0 (chosen_prefixes d) = agrees_cut start.0 d start.2 in
+    let f = choices_fine s ps d (subst (Fine s) (sym is) (cut_fine s start.0 start.1 (chosen_prefixes d) parts.0)) parts.1 e h in
+    let x = choices_extend s ps d e h in
+    let kept : (q : Prefix) → among (chosen_prefixes d) q ≡ true → total s e q ≡ start.0 q = λ q k. total_agrees s e q (f.1 q (among_left (chosen_prefixes d) ps q k)) ∙ ap (λ c. chosen c q) x.1 ∙ chosen_kept d x.0 q (has_firsts d q ∙ k) ∙ ap (λ c. chosen c q) is ∙ chosen_cut start.0 (chosen_prefixes d) q k in
+    (total s e, total_is_choice s e f.0, agrees_on (total s e) start.0 d start.2 kept, λ q k. total_agrees s e q (f.1 q k))
+
+-- each choice of all prefixes that agrees with the start is, on these prefixes, one that goes on from it
+pub choice_in_list :
+    (s : Sight) (d : Choice) (ps : List Prefix) → AreParentsFirst [] (chosen_prefixes d ++ ps) → (c : Prefix → Member) → IsChoice s c → Agrees c d
+    → (e : Choice) × IsIn e (choices_from s ps d) × ((q : Prefix) → among (chosen_prefixes d ++ ps) q ≡ true → chosen e q ≡ c q)
+choice_in_list s d ps first c is a =
+    let all : List Prefix = chosen_prefixes d ++ ps in
+    let ready = (first_parts [] (chosen_prefixes d) ps first).1 in
+    (cut c all, subst (λ z. IsIn (cut c all) (choices_from s ps z)) (sym (agrees_cut c d a)) (cut_in s c is (chosen_prefixes d) ps ready), λ q k. chosen_cut c all q k)
+
+module _ (s : Sight) (d : Choice) (ps : List Prefix) (f : Resolved) (first : AreParentsFirst [] (chosen_prefixes d ++ ps)) (all : HasAll (chosen_prefixes d ++ ps) (any_prefixes f)) where
+  pub some_from : IsStart s d → list_any (λ e. true_under s (chosen e) f) (choices_from s ps d) ≡ true → (c : Prefix → Member) × IsChoice s c × Agrees c d × (true_under s c f ≡ true)
+  some_from start h =
+      let r = any_in (λ e. true_under s (chosen e) f) (choices_from s ps d) h in
+      let c = choice_from_list s d ps first start r.0 r.1 in
+      (c.0, c.1, c.2, truth_same s c.0 (chosen r.0) f (λ p k. c.3 p (all p k)) ∙ r.2)
+
+  pub some_to : ((c : Prefix → Member) × IsChoice s c × Agrees c d × (true_under s c f ≡ true)) → list_any (λ e. true_under s (chosen e) f) (choices_from s ps d) ≡ true
+  some_to (c, is, a, h) =
+      let r = choice_in_list s d ps first c is a in
+      in_any (λ e. true_under s (chosen e) f) (choices_from s ps d) r.0 r.1 (truth_same s (chosen r.0) c f (λ p k. r.2 p (all p k)) ∙ h)
+
+all_in : {X : Type 0} (p : X → Bool) (xs : List X) → list_all p xs ≡ true → (x : X) → IsIn x xs → p x ≡ true
+all_in p [] h x k = absurd k
+all_in p (y ∷ xs) h x k =
+    let b = and_parts (p y) (list_all p xs) h in
+    elim k [ inl e ↦ subst (λ z. p z ≡ true) (sym e) b.0 | inr g ↦ all_in p xs b.1 x g ]
+
+in_all : {X : Type 0} (p : X → Bool) (xs : List X) → ((x : X) → IsIn x xs → p x ≡ true) → list_all p xs ≡ true
+in_all p [] h = refl
+in_all p (y ∷ xs) h = and_from (p y) (list_all p xs) (h y (inl refl)) (in_all p xs (λ x k. h x (inr k)))
+
+module _ (s : Sight) (d : Choice) (ps : List Prefix) (l : Leaf) (o : Op) (r : Leaf) (first : AreParentsFirst [] (chosen_prefixes d ++ ps)) (all : HasAll (chosen_prefixes d ++ ps) (prefixes_of l ++ prefixes_of r)) where
+  pub each_from : list_all (λ e. test_under s (chosen e) l o r) (choices_from s ps d) ≡ true → (c : Prefix → Member) → IsChoice s c → Agrees c d → test_under s c l o r ≡ true
+  each_from h c is a =
+      let e = choice_in_list s d ps first c is a in
+      sym (test_same s (chosen e.0) c l o r (λ p k. e.2 p (all p k))) ∙ all_in (λ e. test_under s (chosen e) l o r) (choices_from s ps d) h e.0 e.1
+
+  pub each_to : IsStart s d → ((c : Prefix → Member) → IsChoice s c → Agrees c d → test_under s c l o r ≡ true) → list_all (λ e. test_under s (chosen e) l o r) (choices_from s ps d) ≡ true
+  each_to start h =
+      in_all (λ e. test_under s (chosen e) l o r) (choices_from s ps d) (λ e k. (let c = choice_from_list s d ps first start e k in sym (test_same s c.0 (chosen e) l o r (λ p g. c.3 p (all p g))) ∙ h c.0 c.1 c.2))
+
+-- nothing is a start, and the list of prefixes with their parents is in order
+pub nothing_start : (s : Sight) → IsStart s []
+nothing_start s = (total s [], total_is_choice s [] (nothing_fine s), tt)
+
+pub in_order : (ps : List Prefix) → AreParentsFirst [] (with_parents ps) × HasAll (with_parents ps) ps
+in_order ps = parents_ready ps [] tt
 
 -- the whole list and the relation agree
 pub holds_from_list : (s : Sight) (f : Resolved) → true_in s f ≡ true → Holds s f
 holds_from_list s f h =
-    let r = any_in (λ d. true_under s (chosen d) f) (choices s (any_prefixes f)) h in
-    let c = choice_from_list s (any_prefixes f) r.0 r.1 in
-    (c.0, c.1, truth_same s c.0 (chosen r.0) f c.2 ∙ r.2)
+    let o = in_order (any_prefixes f) in
+    let c = some_from s [] (with_parents (any_prefixes f)) f o.0 o.1 (nothing_start s) h in
+    (c.0, c.1, c.3)
 
 pub list_from_holds : (s : Sight) (f : Resolved) → Holds s f → true_in s f ≡ true
 list_from_holds s f h =
-    let r = choice_in_list s (any_prefixes f) h.0 h.1 in
-    in_any (λ d. true_under s (chosen d) f) (choices s (any_prefixes f)) r.0 r.1 (truth_same s (chosen r.0) h.0 f r.2 ∙ h.2)
+    let o = in_order (any_prefixes f) in
+    some_to s [] (with_parents (any_prefixes f)) f o.0 o.1 (h.0, h.1, tt, h.2)
 
 -- two any-match comparisons share the choice
 pub shared : (s : Sight) (l m : Leaf) (o p : Op) (r q : Leaf) → true_in s (made.And (made.Test l true o r) (made.Test m true p q)) ≡ true → (c : Prefix → Member) × IsChoice s c × (test_under s c l o r ≡ true) × (test_under s c m p q ≡ true)
@@ -472,32 +557,15 @@ from_shared s l m o p r q (c, is, a, b) =
     list_from_holds s (made.And (made.Test l true o r) (made.Test m true p q)) (c, is, true-and s c (made.Test l true o r) (made.Test m true p q) ∙ and_from _ _ (true-any s c l o r ∙ a) (true-any s c m p q ∙ b))
 
 -- a plain comparison holds under every choice
-all_in : {X : Type 0} (p : X → Bool) (xs : List X) → list_all p xs ≡ true → (x : X) → IsIn x xs → p x ≡ true
-all_in p [] h x k = absurd k
-all_in p (y ∷ xs) h x k =
-    let b = and_parts (p y) (list_all p xs) h in
-    elim k [ inl e ↦ subst (λ z. p z ≡ true) (sym e) b.0 | inr g ↦ all_in p xs b.1 x g ]
-
-in_all : {X : Type 0} (p : X → Bool) (xs : List X) → ((x : X) → IsIn x xs → p x ≡ true) → list_all p xs ≡ true
-in_all p [] h = refl
-in_all p (y ∷ xs) h = and_from (p y) (list_all p xs) (h y (inl refl)) (in_all p xs (λ x k. h x (inr k)))
-
 pub always_from : (s : Sight) (l : Leaf) (o : Op) (r : Leaf) → test_always s l o r ≡ true → (c : Prefix → Member) → IsChoice s c → test_under s c l o r ≡ true
 always_from s l o r h c is =
-    let e = choice_in_list s (prefixes_of l ++ prefixes_of r) c is in
-    sym (test_same s (chosen e.0) c l o r e.2) ∙ all_in (λ d. test_under s (chosen d) l o r) (choices s (prefixes_of l ++ prefixes_of r)) h e.0 e.1
+    let order = in_order (prefixes_of l ++ prefixes_of r) in
+    each_from s [] (with_parents (prefixes_of l ++ prefixes_of r)) l o r order.0 order.1 h c is tt
 
 pub always_to : (s : Sight) (l : Leaf) (o : Op) (r : Leaf) → ((c : Prefix → Member) → IsChoice s c → test_under s c l o r ≡ true) → test_always s l o r ≡ true
 always_to s l o r h =
-    in_all (λ d. test_under s (chosen d) l o r) (choices s (prefixes_of l ++ prefixes_of r)) (λ d k. (let c = choice_from_list s (prefixes_of l ++ prefixes_of r) d k in sym (test_same s c.0 (chosen d) l o r c.2) ∙ h c.0 c.1))
-
--- each choice of the list goes on from the one it began with
-pub choices_extend : (s : Sight) (ps : List Prefix) (d e : Choice) → IsIn e (choices_from s ps d) → (x : Choice) × (e ≡ d ++ x)
-choices_extend s [] d e h = elim h [ inl k ↦ ([], k ∙ sym (append-nil d)) | inr k ↦ absurd k ]
-choices_extend s (p ∷ ps) d e h =
-    let r = in_flat_map (λ m. choices_from s ps (d ++ (p, m) ∷ [])) (or_nobody (related s d p)) e h in
-    let x = choices_extend s ps (d ++ (p, r.0) ∷ []) e r.2 in
-    ((p, r.0) ∷ x.0, x.1 ∙ append_assoc d ((p, r.0) ∷ []) x.0)
+    let order = in_order (prefixes_of l ++ prefixes_of r) in
+    each_to s [] (with_parents (prefixes_of l ++ prefixes_of r)) l o r order.0 order.1 (nothing_start s) (λ c is a. h c is)
 
 -- a filter whose prefixes are all chosen is settled: what it is now, it is in each choice that goes on
 pub settled : (s : Sight) (ps : List Prefix) (d e : Choice) (f : Resolved) → ((p : Prefix) → IsIn p (any_prefixes f) → has d p ≡ true) → IsIn e (choices_from s ps d) → true_under s (chosen e) f ≡ true_under s (chosen d) f

@@ -8,9 +8,9 @@ use Rattle.pocket_types.specs.declared.resolved.Resolved.TheOpen.{Resolved-F}
 use Rattle.pocket_types.specs.declared.resolved.Resolved.TheOpen as filter
 use Rattle.pocket_meaning.specs.Members.{Member}
 use Rattle.pocket_meaning.specs.Members as member
-use Rattle.pocket_meaning.specs.Choices.{Sight, seen_from, parent, last_step}
+use Rattle.pocket_meaning.specs.Sights.{Sight, value_of}
+use Rattle.pocket_meaning.specs.Choices.{seen_from, parent, last_step}
 use Rattle.pocket_meaning.specs.Choosing.{IsIn}
-use Rattle.pocket_meaning.specs.Values.{value_of}
 
 -- the sides of a filter's comparisons, one level of the filter at a time
 abbrev pub sides_in : Resolved-F (List Leaf) → List Leaf

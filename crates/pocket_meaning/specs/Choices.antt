@@ -1,31 +1,13 @@
 -- Choices: each prefix has one member of its related list, or nobody exactly where that list is empty.
 use Rattle.std.specs.Prelude.{◌-◌, List, [], ◌∷◌, ◌++◌, length, take, find, flat_map, slice_get, Option, Some, None}
 use Rattle.std.specs.Option.{option_map_or}
-use Rattle.pocket_types.specs.declared.names.Name.{Name}
-use Rattle.pocket_types.specs.declared.records.Cell.{Cell}
-use Rattle.pocket_types.specs.declared.records.Field.{Field}
-use Rattle.pocket_types.specs.declared.records.Rec.{Rec}
-use Rattle.pocket_types.specs.declared.requests.Ask.{Ask}
 use Rattle.pocket_types.specs.declared.resolved.Prefix.{Prefix}
 use Rattle.pocket_types.specs.declared.resolved.Root.{Root}
 use Rattle.pocket_types.specs.declared.resolved.Step.{Step}
-use Rattle.pocket_types.specs.declared.world.World.{World}
 use Rattle.pocket_meaning.specs.Members.{Member}
 use Rattle.pocket_meaning.specs.Members as member
 use Rattle.pocket_types.specs.Paths.{same_prefix, with_parents}
-use Rattle.pocket_meaning.specs.Related.{sent_field, root_list, step_list}
-
--- all that a filter sees: the request, the sent fields, the list of each root, and that of each step from a member
-pub record Sight : Type 0 where
-  pub ask : Ask
-  pub sent : Name → Option (Field × Cell)
-  pub roots : Root → List Member
-  pub steps : Step → Member → List Member
-
--- what is seen of a world for a record and a request
-abbrev pub sight : World → Ask → Name → Rec → Sight
-sight w ask home rec =
-    record { ask = ask; sent = sent_field w home ask.body; roots = root_list w ask home rec; steps = step_list w (sent_field w home ask.body) }
+use Rattle.pocket_meaning.specs.Sights.{Sight}
 
 -- prefixes with what they have chosen
 abbrev pub Choice : Type 0

@@ -1,8 +1,9 @@
 pub mod Members
 pub mod Prefixes
 pub mod Related
-pub mod Choices
 pub mod Values
+pub mod Sights
+pub mod Choices
 pub mod Meaning
 pub mod Seen
 pub mod Choosing

@@ -15,8 +15,8 @@ use Rattle.pocket_ops.specs.Comparison.{compare_values}
 use Rattle.pocket_meaning.specs.Members.{Member}
 use Rattle.pocket_types.specs.Paths.{prefixes_of}
 use Rattle.pocket_meaning.specs.Prefixes.{any_prefixes}
-use Rattle.pocket_meaning.specs.Choices.{Sight, chosen, choices, sight}
-use Rattle.pocket_meaning.specs.Values.{value_of}
+use Rattle.pocket_meaning.specs.Sights.{Sight, sight, value_of}
+use Rattle.pocket_meaning.specs.Choices.{chosen, choices}
 
 -- a comparison, where each prefix has chosen a member
 abbrev pub test_under : Sight → (Prefix → Member) → Leaf → Op → Leaf → Bool

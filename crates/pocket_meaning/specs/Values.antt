@@ -1,4 +1,4 @@
--- The value of a side of a comparison.
+-- The values of cells, fields, items and pairs.
 use Rattle.std.specs.Prelude.{ℕ, List, codes, find, is_some, if◌then◌else◌}
 use Rattle.std.specs.Option.{option_map_or}
 use Rattle.std.specs.Str.{bytes_eq}
@@ -12,20 +12,15 @@ use Rattle.pocket_types.specs.declared.requests.Context.TheVariants as context
 use Rattle.pocket_types.specs.declared.requests.Method.{Method}
 use Rattle.pocket_types.specs.declared.requests.Method.TheVariants as method
 use Rattle.pocket_types.specs.declared.requests.Pair.{Pair}
-use Rattle.pocket_types.specs.declared.resolved.Leaf.{Leaf}
-use Rattle.pocket_types.specs.declared.resolved.Leaf.TheVariants as leaf
 use Rattle.pocket_types.specs.declared.resolved.Modifier.{Modifier}
 use Rattle.pocket_types.specs.declared.resolved.Modifier.TheVariants as modifier
-use Rattle.pocket_types.specs.declared.resolved.Prefix.{Prefix}
 use Rattle.pocket_types.specs.declared.values.Value.{Value}
 use Rattle.pocket_types.specs.declared.values.Value.TheVariants as value
 use Rattle.pocket_ops.specs.Cells.{cell_value, count_value, lowered}
 use Rattle.pocket_ops.specs.Dates.{date_text}
-use Rattle.pocket_ops.specs.Macros.{macro_value}
 use Rattle.pocket_meaning.specs.Members.{Member}
 use Rattle.pocket_meaning.specs.Members as member
-use Rattle.pocket_meaning.specs.Related.{field_at, sent_for}
-use Rattle.pocket_meaning.specs.Choices.{Sight}
+use Rattle.pocket_meaning.specs.Related.{field_at}
 
 -- a cell under a modifier: the count of its items, its text in lower case, or its value
 abbrev pub modified : Modifier → Field × Cell → Value
@@ -70,20 +65,3 @@ abbrev pub pair_value : List Pair → List ℕ → Modifier → Value
 pair_value pairs name modifier.Isset = value.Flag (is_some (find (λ x. bytes_eq x.name name) pairs))
 pair_value pairs name modifier.Lower = option_map_or (λ x. lowered (value.Text x.value)) (find (λ x. bytes_eq x.name name) pairs) value.Nothing
 pair_value pairs name _ = option_map_or (λ x. value.Text x.value) (find (λ x. bytes_eq x.name name) pairs) value.Nothing
-
--- a sent field: its cell under the modifier, or whether it was sent
-abbrev pub sent_value : Sight → Name → Modifier → Value
-sent_value s name modifier.Isset = value.Flag (is_some (sent_for s.ask.body name))
-sent_value s name modifier = option_map_or (modified modifier) (s.sent name) value.Nothing
-
--- the value of a side, where each prefix has chosen a member
-abbrev pub value_of : Sight → (Prefix → Member) → Leaf → Value
-value_of s c (leaf.Fixed v) = v
-value_of s c (leaf.Of prefix field modifier) = member_value (c prefix) field modifier
-value_of s c (leaf.ItemOf prefix) = item_value (c prefix)
-value_of s c leaf.Context = value.Text (context_text s.ask.context)
-value_of s c leaf.Method = value.Text (method_text s.ask.method)
-value_of s c (leaf.Header name modifier) = pair_value s.ask.headers name modifier
-value_of s c (leaf.Query name modifier) = pair_value s.ask.query name modifier
-value_of s c (leaf.Body field modifier) = sent_value s field modifier
-value_of s c (leaf.Macro which) = macro_value which s.ask.moment

@@ -7,7 +7,7 @@ use crate::related::{members_of_root, members_of_step};
 use pocket_types::{Prefix, Root, Step};
 use std::alloc::{AllocError, Global};
 
-/// What a prefix has chosen.
+/// What a prefix has chosen: nobody where the choice lacks it.
 pub fn member_chosen<'w>(choice: &[Chosen<'_, 'w>], root: &Root, steps: &[Step]) -> Member<'w>
     ensures { seen result ≡ chosen (choice_of choice.now) (record { root = root.now; steps = steps.now }) }
 {
@@ -26,7 +26,7 @@ pub fn member_chosen<'w>(choice: &[Chosen<'_, 'w>], root: &Root, steps: &[Step])
 /// The list that a prefix chooses from.
 fn members_related<'w>(
     alloc: Global,
-    scene: &Scene<'w>,
+    scene: &Scene<'_, 'w>,
     choice: &[Chosen<'_, 'w>],
     prefix: &Prefix,
 ) -> Result<Vec<Member<'w>>, AllocError>
@@ -44,7 +44,7 @@ fn members_related<'w>(
 /// What a prefix may choose: a member of its list, or nobody where that is empty.
 pub fn members_to_choose<'w>(
     alloc: Global,
-    scene: &Scene<'w>,
+    scene: &Scene<'_, 'w>,
     choice: &[Chosen<'_, 'w>],
     prefix: &Prefix,
 ) -> Result<Vec<Member<'w>>, AllocError>

@@ -1,5 +1,5 @@
 // What follows from the definitions, for those who compute truth in other ways. Each law is a function without a body.
-ghost use Rattle.pocket_meaning.specs.Laws.{ConditionsShare, EmptyListIsNobody, HasOneChoice, ListIsRelation, PlainIsEach, SameSightSameTruth, TruthIsCarried, ChosenPartIsSettled};
+ghost use Rattle.pocket_meaning.specs.Laws.{ConditionsShare, EmptyListIsNobody, HasOneChoice, ListIsRelation, PlainIsEach, AnyOrderServes, SharedStartServes, StartsAreMade, OrdersAreMade, SameSightSameTruth, TruthIsCarried, ChosenPartIsSettled};
 
 /// Any-match comparisons of one filter share the choice on each path: two of them hold together exactly where one choice makes
 /// both true.
@@ -17,7 +17,8 @@ pub fn a_plain_filter_has_one_choice()
     ensures { HasOneChoice }
 {}
 
-/// The list of choices and the relation agree: a filter holds exactly where some choice of all prefixes makes it true.
+/// The list of choices and the relation agree, in every sight: a filter is true exactly where some choice of all prefixes makes it
+/// true.
 pub fn list_and_relation_agree()
     ensures { ListIsRelation }
 {}
@@ -27,12 +28,39 @@ pub fn a_plain_comparison_asks_every_choice()
     ensures { PlainIsEach }
 {}
 
-/// A filter sees of a world only the request, the sent fields and the lists: where these are the same, so is its truth.
+/// Prefixes may be taken in any order that has parents first, from any start that some choice of all prefixes agrees with: some
+/// choice that goes on makes a filter true exactly where one of all prefixes does that agrees with the start. A plain comparison is
+/// true in each choice that goes on exactly where it is in each of those.
+pub fn any_order_serves()
+    ensures { AnyOrderServes }
+{}
+
+/// From a start that every choice agrees with, such as the record itself and the sent fields, any order gives the truth itself.
+pub fn a_shared_start_gives_the_truth()
+    ensures { SharedStartServes }
+{}
+
+/// Nothing is a start, and so is a start with one more member of the next list, and what every choice agrees with. A root with one
+/// member is shared by all choices.
+pub fn starts_are_made()
+    ensures { StartsAreMade }
+{}
+
+/// Prefixes with all that they begin with have parents first, and so has a start followed by what it lacks of them.
+pub fn orders_are_made()
+    ensures { OrdersAreMade }
+{}
+
+/// A filter sees of a world only the request, the sent fields, the lists and the values: where these are the same, so is its truth.
 pub fn same_sight_same_truth()
     ensures { SameSightSameTruth }
 {}
 
-/// A filter is as true in a world whose lists and values are those of another with each member carried over.
+/// A filter is as true in a sight whose lists and values are those of another with each member carried over.
+///
+/// A member goes over whole, a record with its collection, and the record that is judged goes over like every other: it is Home's
+/// list. So a world that is cut is asked of the cut record alone. A whole record beside a cut collection, whose cells would be
+/// taken for those of other fields, is no member that the map gives, and the lists or the values then differ.
 pub fn truth_is_carried_over()
     ensures { TruthIsCarried }
 {}

@@ -5,7 +5,7 @@ ghost use Rattle.pocket_meaning.specs.Meaning.{test_under, test_always, true_und
 ghost use Rattle.pocket_meaning.specs.Seen.{choice_of, sight_of};
 
 use crate::choices::{longer, members_to_choose};
-use crate::members::{Chosen, Scene};
+use crate::members::{Chosen, Scene, lent_shelves};
 use crate::prefixes::{prefixes_of_any, prefixes_of_test};
 use crate::values::value_under;
 use pocket_ops::compare;
@@ -15,7 +15,7 @@ use std::alloc::{AllocError, Global};
 /// A comparison under a choice.
 fn test(
     alloc: Global,
-    scene: &Scene<'_>,
+    scene: &Scene<'_, '_>,
     choice: &[Chosen<'_, '_>],
     left: &Leaf,
     op: Op,
@@ -31,7 +31,7 @@ fn test(
 /// A comparison under every choice that goes on from this one.
 fn test_each<'p, 'w>(
     alloc: Global,
-    scene: &Scene<'w>,
+    scene: &Scene<'_, 'w>,
     prefixes: &'p [Prefix],
     choice: &[Chosen<'p, 'w>],
     left: &Leaf,
@@ -58,7 +58,7 @@ fn test_each<'p, 'w>(
 /// A comparison under every choice of its own two sides' prefixes.
 fn is_always(
     alloc: Global,
-    scene: &Scene<'_>,
+    scene: &Scene<'_, '_>,
     left: &Leaf,
     op: Op,
     right: &Leaf,
@@ -72,7 +72,7 @@ fn is_always(
 /// A filter under a choice.
 fn is_true(
     alloc: Global,
-    scene: &Scene<'_>,
+    scene: &Scene<'_, '_>,
     choice: &[Chosen<'_, '_>],
     filter: &Resolved,
 ) -> Result<bool, AllocError>
@@ -92,14 +92,10 @@ fn is_true(
             }
         }
         Resolved::And(a, b) => {
-            let first = is_true(alloc, scene, choice, a.get())?;
-            let second = is_true(alloc, scene, choice, b.get())?;
-            Ok(first && second)
+            Ok(is_true(alloc, scene, choice, a.get())? && is_true(alloc, scene, choice, b.get())?)
         }
         Resolved::Or(a, b) => {
-            let first = is_true(alloc, scene, choice, a.get())?;
-            let second = is_true(alloc, scene, choice, b.get())?;
-            Ok(first || second)
+            Ok(is_true(alloc, scene, choice, a.get())? || is_true(alloc, scene, choice, b.get())?)
         }
     }
 }
@@ -107,7 +103,7 @@ fn is_true(
 /// Whether a choice that goes on from this one makes the filter true.
 fn is_true_for_some<'p, 'w>(
     alloc: Global,
-    scene: &Scene<'w>,
+    scene: &Scene<'_, 'w>,
     prefixes: &'p [Prefix],
     choice: &[Chosen<'p, 'w>],
     filter: &Resolved,
@@ -144,8 +140,9 @@ pub fn holds_slow(
 ) -> Result<bool, AllocError>
     ensures { IfOk result (λ b. b ≡ holds world.now ask.now home.now rec.now filter.now) }
 {
+    let shelves = lent_shelves(alloc, world)?;
     let scene = Scene {
-        world,
+        shelves: shelves.as_slice(),
         ask,
         home,
         rec,

@@ -1,4 +1,15 @@
+ghost use Rattle.std.specs.Prelude.{◌≡◌, IfOk};
+ghost use Rattle.pocket_meaning.specs.Seen.{lent_world};
+
 use pocket_types::{Ask, Collection, Name, Prefix, Rec, World};
+use std::alloc::{AllocError, Global};
+
+/// A collection with its records, lent by a world or by whoever keeps them in another form.
+#[derive(Clone, Copy, Drop)]
+pub struct LentShelf<'w> {
+    pub collection: &'w Collection,
+    pub recs: &'w [Rec],
+}
 
 /// What a path leads to, lent by the world or the request.
 #[derive(Clone, Copy, Drop)]
@@ -16,11 +27,25 @@ pub struct Chosen<'p, 'w> {
     pub member: Member<'w>,
 }
 
-/// What a filter is judged in: a world, a request, and the record with the name of its collection.
+/// What a filter is judged in: the shelves of a world, a request, and the record with the name of its collection.
 #[derive(Clone, Copy, Drop)]
-pub struct Scene<'w> {
-    pub world: &'w World,
+pub struct Scene<'s, 'w> {
+    pub shelves: &'s [LentShelf<'w>],
     pub ask: &'w Ask,
     pub home: &'w Name,
     pub rec: &'w Rec,
+}
+
+/// The shelves of a world, lent.
+pub fn lent_shelves<'w>(alloc: Global, world: &'w World) -> Result<Vec<LentShelf<'w>>, AllocError>
+    ensures { IfOk result (λ v. lent_world v.items ≡ world.now) }
+{
+    let mut shelves = Vec::new(alloc);
+    for shelf in world.shelves.as_slice() {
+        shelves.push(LentShelf {
+            collection: &shelf.collection,
+            recs: shelf.recs.as_slice(),
+        })?;
+    }
+    Ok(shelves)
 }

@@ -3,15 +3,14 @@ ghost use Rattle.std.specs.List.{list_any};
 ghost use Rattle.std.specs.Str.{bytes_eq};
 ghost use Rattle.std.specs.Option.{option_copied, option_map_or};
 ghost use Rattle.pocket_types.specs.Kinds.{target_of};
+ghost use Rattle.pocket_types.specs.World.{shelf_named, rec_of};
 ghost use Rattle.pocket_ops.specs.Cells.{items_of};
 ghost use Rattle.pocket_meaning.specs.Members as member;
 ghost use Rattle.pocket_meaning.specs.Related.{field_at, sent_for, sent_field, ids_of, shelf_member, held, refers, points_to, holders, step_list, root_list};
-ghost use Rattle.pocket_meaning.specs.Seen.{seen, sight_of};
+ghost use Rattle.pocket_meaning.specs.Seen.{seen, lent_shelf, lent_world, sight_of};
 
-use crate::members::{Member, Scene};
-use pocket_types::{
-    Caller, Cell, Collection, Field, Id, Name, Rec, Root, Sent, Shelf, Step, World,
-};
+use crate::members::{LentShelf, Member, Scene};
+use pocket_types::{Caller, Cell, Collection, Field, Id, Name, Rec, Root, Sent, Step};
 use std::alloc::{AllocError, Global};
 
 /// The first field of a name, with its cell.
@@ -62,11 +61,34 @@ fn field_named<'a>(fields: &'a [Field], name: &Name) -> Option<&'a Field>
     fields.iter().find(|field| field.name == *name)
 }
 
-/// A field of the home collection that was sent, with the cell that it will have.
-pub fn sent_field_of<'a>(scene: &Scene<'a>, name: &Name) -> Option<(&'a Field, &'a Cell)>
-    ensures { option_map (λ x. (x.0.now, x.1.now)) result ≡ sent_field scene.now.world.now scene.now.home.now scene.now.ask.now.body name.now }
+/// The shelf of a collection.
+fn shelf_in<'a>(shelves: &[LentShelf<'a>], name: &Name) -> Option<LentShelf<'a>>
+    ensures { option_map lent_shelf result ≡ shelf_named name.now (lent_world shelves.now).shelves }
 {
-    let shelf = scene.world.shelf(scene.home)?;
+    match shelves {
+        [] => None,
+        [shelf, shelves @ ..] => {
+            if shelf.collection.name == *name {
+                Some(*shelf)
+            } else {
+                shelf_in(shelves, name)
+            }
+        }
+    }
+}
+
+/// The record of an id.
+fn rec_in(recs: &[Rec], id: Id) -> Option<&Rec>
+    ensures { option_copied result ≡ rec_of id recs.now }
+{
+    recs.iter().find(|rec| rec.id == id)
+}
+
+/// A field of the home collection that was sent, with the cell that it will have.
+pub fn sent_field_of<'a>(scene: &Scene<'_, 'a>, name: &Name) -> Option<(&'a Field, &'a Cell)>
+    ensures { option_map (λ x. (x.0.now, x.1.now)) result ≡ sent_field (lent_world scene.now.shelves.now) scene.now.home.now scene.now.ask.now.body name.now }
+{
+    let shelf = shelf_in(scene.shelves, scene.home)?;
     let field = field_named(shelf.collection.fields.as_slice(), name)?;
     let sent = sent_of(scene.ask.body.as_slice(), name)?;
     Some((field, &sent.cell))
@@ -93,11 +115,11 @@ fn add_items<'a>(members: &mut Vec<Member<'a>>, cell: &'a Cell) -> Result<(), Al
 }
 
 /// Adds the records of a shelf.
-fn add_shelf<'a>(members: &mut Vec<Member<'a>>, shelf: &'a Shelf) -> Result<(), AllocError>
-    ensures { IfOk result (λ _. map seen members.new.items ≡ map seen members.old.items ++ map (member.Record shelf.now.collection) shelf.now.recs) }
+fn add_shelf<'a>(members: &mut Vec<Member<'a>>, shelf: LentShelf<'a>) -> Result<(), AllocError>
+    ensures { IfOk result (λ _. map seen members.new.items ≡ map seen members.old.items ++ map (member.Record shelf.entry.collection.now) shelf.entry.recs.now) }
 {
-    for rec in shelf.recs.as_slice() {
-        members.push(Member::Record(&shelf.collection, rec))?;
+    for rec in shelf.recs {
+        members.push(Member::Record(shelf.collection, rec))?;
     }
     Ok(())
 }
@@ -105,14 +127,14 @@ fn add_shelf<'a>(members: &mut Vec<Member<'a>>, shelf: &'a Shelf) -> Result<(), 
 /// Adds the records of a shelf that these ids name, in the ids' order.
 fn add_named<'a>(
     members: &mut Vec<Member<'a>>,
-    shelf: &'a Shelf,
+    shelf: LentShelf<'a>,
     ids: &[Id],
 ) -> Result<(), AllocError>
-    ensures { IfOk result (λ _. map seen members.new.items ≡ map seen members.old.items ++ filter_map (shelf_member shelf.now) ids.now) }
+    ensures { IfOk result (λ _. map seen members.new.items ≡ map seen members.old.items ++ filter_map (shelf_member (lent_shelf shelf.entry)) ids.now) }
 {
     for id in ids {
-        if let Some(rec) = shelf.rec(*id) {
-            members.push(Member::Record(&shelf.collection, rec))?;
+        if let Some(rec) = rec_in(shelf.recs, *id) {
+            members.push(Member::Record(shelf.collection, rec))?;
         }
     }
     Ok(())
@@ -131,14 +153,14 @@ fn ids_in(cell: &Cell) -> &[Id]
 /// Adds the records that a relation holds.
 fn add_held<'a>(
     members: &mut Vec<Member<'a>>,
-    world: &'a World,
+    shelves: &[LentShelf<'a>],
     field: &Field,
     cell: &Cell,
 ) -> Result<(), AllocError>
-    ensures { IfOk result (λ _. map seen members.new.items ≡ map seen members.old.items ++ held world.now (field.now, cell.now)) }
+    ensures { IfOk result (λ _. map seen members.new.items ≡ map seen members.old.items ++ held (lent_world shelves.now) (field.now, cell.now)) }
 {
     if let Some(name) = field.kind.target()
-        && let Some(shelf) = world.shelf(name)
+        && let Some(shelf) = shelf_in(shelves, name)
     {
         add_named(members, shelf, ids_in(cell))?;
     }
@@ -184,25 +206,25 @@ fn does_point(collection: &Collection, rec: &Rec, field: &Name, name: &Name, id:
 /// Adds the records of a shelf whose field refers to the record of a collection and an id.
 fn add_holders<'a>(
     members: &mut Vec<Member<'a>>,
-    shelf: &'a Shelf,
+    shelf: LentShelf<'a>,
     field: &Name,
     name: &Name,
     id: Id,
 ) -> Result<(), AllocError>
-    ensures { IfOk result (λ _. map seen members.new.items ≡ map seen members.old.items ++ map (member.Record shelf.now.collection) (filter (points_to shelf.now.collection field.now name.now id) shelf.now.recs)) }
+    ensures { IfOk result (λ _. map seen members.new.items ≡ map seen members.old.items ++ map (member.Record shelf.entry.collection.now) (filter (points_to shelf.entry.collection.now field.now name.now id) shelf.entry.recs.now)) }
 {
-    for rec in shelf.recs.as_slice() {
-        if does_point(&shelf.collection, rec, field, name, id) {
-            members.push(Member::Record(&shelf.collection, rec))?;
+    for rec in shelf.recs {
+        if does_point(shelf.collection, rec, field, name, id) {
+            members.push(Member::Record(shelf.collection, rec))?;
         }
     }
     Ok(())
 }
 
-/// The members to which a step leads.
+/// The members to which a step leads from one.
 pub fn members_of_step<'a>(
     alloc: Global,
-    scene: &Scene<'a>,
+    scene: &Scene<'_, 'a>,
     step: &Step,
     from: Member<'a>,
 ) -> Result<Vec<Member<'a>>, AllocError>
@@ -212,16 +234,16 @@ pub fn members_of_step<'a>(
     match (step, from) {
         (Step::Forward(name), Member::Record(collection, rec)) => {
             if let Some((field, cell)) = field_of(collection, rec, name) {
-                add_held(&mut members, scene.world, field, cell)?;
+                add_held(&mut members, scene.shelves, field, cell)?;
             }
         }
         (Step::Forward(name), Member::Sent) => {
             if let Some((field, cell)) = sent_field_of(scene, name) {
-                add_held(&mut members, scene.world, field, cell)?;
+                add_held(&mut members, scene.shelves, field, cell)?;
             }
         }
         (Step::Back(from, name), Member::Record(collection, rec)) => {
-            if let Some(shelf) = scene.world.shelf(from) {
+            if let Some(shelf) = shelf_in(scene.shelves, from) {
                 add_holders(&mut members, shelf, name, &collection.name, rec.id)?;
             }
         }
@@ -243,7 +265,7 @@ pub fn members_of_step<'a>(
 /// The members of a root.
 pub fn members_of_root<'a>(
     alloc: Global,
-    scene: &Scene<'a>,
+    scene: &Scene<'_, 'a>,
     root: &Root,
 ) -> Result<Vec<Member<'a>>, AllocError>
     ensures { IfOk result (λ v. map seen v.items ≡ (sight_of scene.now).roots root.now) }
@@ -251,21 +273,21 @@ pub fn members_of_root<'a>(
     let mut members = Vec::new(alloc);
     match root {
         Root::Home => {
-            if let Some(shelf) = scene.world.shelf(scene.home) {
-                members.push(Member::Record(&shelf.collection, scene.rec))?;
+            if let Some(shelf) = shelf_in(scene.shelves, scene.home) {
+                members.push(Member::Record(shelf.collection, scene.rec))?;
             }
         }
         Root::Auth => {
             if let Caller::Member(name, id) = &scene.ask.caller
-                && let Some(shelf) = scene.world.shelf(name)
-                && let Some(rec) = shelf.rec(*id)
+                && let Some(shelf) = shelf_in(scene.shelves, name)
+                && let Some(rec) = rec_in(shelf.recs, *id)
             {
-                members.push(Member::Record(&shelf.collection, rec))?;
+                members.push(Member::Record(shelf.collection, rec))?;
             }
         }
         Root::Body => members.push(Member::Sent)?,
         Root::Look(name, _) => {
-            if let Some(shelf) = scene.world.shelf(name) {
+            if let Some(shelf) = shelf_in(scene.shelves, name) {
                 add_shelf(&mut members, shelf)?;
             }
         }

@@ -7,7 +7,8 @@ ghost use Rattle.pocket_ops.specs.Dates.{date_text as text_of_moment};
 ghost use Rattle.pocket_meaning.specs.Choices.{chosen};
 ghost use Rattle.pocket_meaning.specs.Related.{field_at};
 ghost use Rattle.pocket_meaning.specs.Seen.{seen, choice_of, sight_of};
-ghost use Rattle.pocket_meaning.specs.Values.{modified, field_value, member_value, item_value, context_text, method_text, pair_value, sent_value, value_of};
+ghost use Rattle.pocket_meaning.specs.Sights.{sent_value, value_of};
+ghost use Rattle.pocket_meaning.specs.Values.{modified, field_value, member_value, item_value, context_text, method_text, pair_value};
 
 use crate::choices::member_chosen;
 use crate::members::{Chosen, Member, Scene};
@@ -167,7 +168,7 @@ fn pair_value_of(
 /// The value of a sent field, under a modifier.
 fn sent_cell_value(
     alloc: Global,
-    scene: &Scene<'_>,
+    scene: &Scene<'_, '_>,
     name: &Name,
     modifier: Modifier,
 ) -> Result<Value, AllocError>
@@ -182,7 +183,7 @@ fn sent_cell_value(
 /// A sent field, under a modifier.
 fn sent_value_of(
     alloc: Global,
-    scene: &Scene<'_>,
+    scene: &Scene<'_, '_>,
     name: &Name,
     modifier: Modifier,
 ) -> Result<Value, AllocError>
@@ -203,7 +204,7 @@ fn member_at<'w>(choice: &[Chosen<'_, 'w>], prefix: &Prefix) -> Member<'w>
 /// The value of a side of a comparison under a choice.
 pub fn value_under(
     alloc: Global,
-    scene: &Scene<'_>,
+    scene: &Scene<'_, '_>,
     choice: &[Chosen<'_, '_>],
     side: &Leaf,
 ) -> Result<Value, AllocError>

@@ -1,4 +1,4 @@
-use Rattle.pocket_meaning.specs.Choices.{sight}
+use Rattle.pocket_meaning.specs.Sights.{sight}
 use Rattle.pocket_meaning.proofs.Somebody.{some_root, some_step, empty_where_nobody, nobody_of_empty}
 use Rattle.pocket_meaning.specs.Related.{sent_field}
 use Rattle.pocket_meaning.proofs.laws.an_empty_list_is_nobody.Goals as goal
