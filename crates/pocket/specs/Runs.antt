@@ -2,8 +2,9 @@
 use Rattle.std.specs.Prelude.{ℕ, List, Option, ⊤}
 use Rattle.pocket_types.specs.Causes.{Rose}
 use Rattle.pocket_wire.specs.declared.request.Ended.{Ended}
+use Rattle.pocket_keeper.specs.Keeping.{IfBothTold}
 use Rattle.pocket_keeper.specs.declared.rows.KeptRow.{KeptRow}
-use Rattle.pocket_core.specs.Opening.{IfTold, IsFirstBadRow, IsPlainWorld, IsWorldOf}
+use Rattle.pocket_core.specs.Opening.{IsFirstBadRow, IsPlainWorld, IsWorldOf}
 use Rattle.pocket_core.specs.States.{MachineState}
 use Rattle.pocket_core.specs.declared.opening.StartFault.{StartFault}
 use Rattle.pocket_core.specs.declared.opening.StartFault.TheVariants as start
@@ -12,17 +13,17 @@ use Rattle.pocket.specs.declared.status.RunEnd.{RunEnd}
 use Rattle.pocket.specs.declared.status.RunEnd.TheVariants as run
 
 -- the ends that a pipe may have, each with its cause
-abbrev pub IsPipeEnd : List (List ℕ) → Option (List KeptRow) → ℕ → ℕ → RunEnd → Type 0
-IsPipeEnd words rows before now (run.Session ended) = ⊤
-IsPipeEnd words rows before now run.Words = (token : List ℕ) → ¬ IsPipe words token
-IsPipeEnd words rows before now run.KeeperFault = Rose before now
-IsPipeEnd words rows before now (run.BadStore key) = IfTold rows (λ told. IsFirstBadRow told key)
-IsPipeEnd words rows before now run.Memory = ⊤
-IsPipeEnd words rows before now run.SourceFault = ⊥
-IsPipeEnd words rows before now run.SinkFault = ⊥
-IsPipeEnd words rows before now (run.Faults count) = ⊥
-IsPipeEnd words rows before now run.BadInput = ⊥
-IsPipeEnd words rows before now run.NotEmpty = ⊥
+abbrev pub IsPipeEnd : List (List ℕ) → Option (List KeptRow) → Option (List KeptRow) → ℕ → ℕ → RunEnd → Type 0
+IsPipeEnd words old new before now (run.Session ended) = ⊤
+IsPipeEnd words old new before now run.Words = (token : List ℕ) → ¬ IsPipe words token
+IsPipeEnd words old new before now run.KeeperFault = Rose before now
+IsPipeEnd words old new before now (run.BadStore key) = IfBothTold old new (λ told _. IsFirstBadRow told key)
+IsPipeEnd words old new before now run.Memory = ⊤
+IsPipeEnd words old new before now run.SourceFault = ⊥
+IsPipeEnd words old new before now run.SinkFault = ⊥
+IsPipeEnd words old new before now (run.Faults count) = ⊥
+IsPipeEnd words old new before now run.BadInput = ⊥
+IsPipeEnd words old new before now run.NotEmpty = ⊥
 
 -- a fact of the session, where there was one
 abbrev pub OnSession : RunEnd → (Ended → Type 0) → Type 0
@@ -34,11 +35,11 @@ abbrev pub OnUnopened : RunEnd → Type 0 → Type 0
 OnUnopened (run.Session ended) P = ⊤
 OnUnopened _ P = P
 
--- the state that is opened: that of the told rows, with the token of the words
-pub record IsOpeningOf (words : List (List ℕ)) (rows : Option (List KeptRow)) (opening : MachineState) : Type 0 where
+-- the state that is opened: that of the rows told at first, where they are told to the end, with the token of the words
+pub record IsOpeningOf (words : List (List ℕ)) (old new : Option (List KeptRow)) (opening : MachineState) : Type 0 where
   pub token : IsPipe words opening.admin
   pub plain : IsPlainWorld opening.world
-  pub kept : IfTold rows (λ told. IsWorldOf told opening.world)
+  pub kept : IfBothTold old new (λ told _. IsWorldOf told opening.world)
 
 -- the end that a fault of the opening makes
 abbrev pub end_of : StartFault → RunEnd

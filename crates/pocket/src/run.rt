@@ -1,7 +1,8 @@
 ghost use Rattle.std.specs.Prelude.{◌≡◌, ◌⊎◌, ◌<◌, ◌≤◌, [], ℕ, List, length, map};
 ghost use Rattle.std.specs.Io.KnownBytes.{Consumes, IsAtEnd};
 ghost use Rattle.std.specs.String.{string_bytes};
-ghost use Rattle.pocket_types.specs.Causes.{Rose};
+ghost use Rattle.pocket_types.specs.Causes.{Rose, StaysUntold};
+ghost use Rattle.pocket_keeper.specs.Keeping.{AreAsBefore};
 ghost use Rattle.pocket_wire.specs.declared.request.Ended.TheVariants.{Done, SourceFault};
 ghost use Rattle.pocket_core.specs.Opening.{IfTold, IsWorldOf};
 ghost use Rattle.pocket_core.specs.States.{MachineState, after};
@@ -89,6 +90,7 @@ fn run_opened<S: Source, O: Sink, K: Committer, C: Clock, D: Dice, L: Ledger>(
 
 /// Runs the program that the words name, over bytes, a keeper, a clock and dice. So far that is `pipe --admin TOKEN
 /// --sample`, which answers the request of the source on the sink. It returns for every input.
+#[tactic(auto, using(crate::proofs::KeeperLemmas::as_they_were, crate::proofs::KeeperLemmas::pipe_end, crate::proofs::KeeperLemmas::opening_of))]
 pub fn run_plain<S: Source, O: Sink, K: Keeper, C: Clock, D: Dice>(
     alloc: Global,
     words: &[String],
@@ -100,12 +102,12 @@ pub fn run_plain<S: Source, O: Sink, K: Keeper, C: Clock, D: Dice>(
 ) -> Status
     // The words are refused exactly where they aren't good, and each other end has its cause.
     ensures words { result.ended ≡ RunEnd.Words ⊎ ((token : List ℕ) × IsPipe (map string_bytes words.now) token) }
-    ensures ended { IsPipeEnd (map string_bytes words.now) (K.rows keeper.old) (K.faults keeper.old) (K.faults keeper.new) result.ended }
+    ensures ended { IsPipeEnd (map string_bytes words.now) (K.rows keeper.old) (K.rows keeper.new) (K.faults keeper.old) (K.faults keeper.new) result.ended }
 
-    // From the state that the told rows stand for, the turns, the accepted commands and what the sink took are a session
+    // From the state that the rows told at first stand for, the turns, the accepted commands and what the sink took are a session
     // over the bytes that the source gave, which are all unless it failed, memory was wanting or they are too many.
     ensures session { OnSession result.ended (λ ended. (opening : MachineState)
-        × IsOpeningOf (map string_bytes words.now) (K.rows keeper.old) opening
+        × IsOpeningOf (map string_bytes words.now) (K.rows keeper.old) (K.rows keeper.new) opening
         × (bytes : List ℕ) × (out : List ℕ)
         × Consumes (S.left source.old) (S.left source.new) bytes
         × (length bytes ≤ 16_896) × ReadsAll bytes (S.left source.new) ended
@@ -123,7 +125,8 @@ pub fn run_plain<S: Source, O: Sink, K: Keeper, C: Clock, D: Dice>(
         ((source.new ≡ source.old) × (sink.new ≡ sink.old) × (clock.new ≡ clock.old) × (dice.new ≡ dice.old)) }
 
     // The told rows are as before, and no count of faults falls.
-    ensures rows { K.rows keeper.new ≡ K.rows keeper.old }
+    ensures rows { AreAsBefore (K.rows keeper.old) (K.rows keeper.new) }
+    ensures untold { StaysUntold (K.rows keeper.old) (K.rows keeper.new) }
     ensures keeper_count { K.faults keeper.old ≤ K.faults keeper.new }
     ensures source_count { S.faults source.old ≤ S.faults source.new }
     ensures sink_count { O.faults sink.old ≤ O.faults sink.new }

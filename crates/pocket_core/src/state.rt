@@ -1,4 +1,6 @@
 ghost use Rattle.std.specs.Prelude.{◌≡◌, ◌⊎◌, ◌≤◌, IfErr, IfOk, length};
+ghost use Rattle.pocket_types.specs.Causes.{StaysUntold};
+ghost use Rattle.pocket_keeper.specs.Keeping.{AreAsBefore};
 ghost use Rattle.pocket_core.specs.Answers.{IsAnswer, IsHistoryAfter, IsNoMemory, answer};
 ghost use Rattle.pocket_core.specs.Starting.{IsOpened, IsStartFault};
 ghost use Rattle.pocket_core.specs.States.{caller_with};
@@ -54,9 +56,10 @@ impl State {
     /// Opens the state that the kept rows stand for. `BadStore` names the first row, in the order of the keys, that may not
     /// stand there.
     pub fn load<K: Keeper>(alloc: Global, keeper: &mut K, admin: Text) -> Result<State, StartFault>
-        ensures opened { IfOk result (IsOpened (K.rows keeper.old) admin) }
-        ensures refused { IfErr result (IsStartFault (K.rows keeper.old) (K.faults keeper.old) (K.faults keeper.new)) }
-        ensures as_before { K.rows keeper.new ≡ K.rows keeper.old }
+        ensures opened { IfOk result (IsOpened (K.rows keeper.new) admin) }
+        ensures refused { IfErr result (IsStartFault (K.rows keeper.new) (K.faults keeper.old) (K.faults keeper.new)) }
+        ensures as_before { AreAsBefore (K.rows keeper.old) (K.rows keeper.new) }
+        ensures untold { StaysUntold (K.rows keeper.old) (K.rows keeper.new) }
         ensures count { K.faults keeper.old ≤ K.faults keeper.new }
     {
         let rows = match keeper.load(alloc) {

@@ -1,5 +1,5 @@
 -- What a keeper holds after a commit, and what a call of it may answer.
-use Rattle.std.specs.Prelude.{◌≡◌, ℕ, ◌≤◌, List, ◌∷◌, ◌++◌, not, filter, fold, Result, IfErr}
+use Rattle.std.specs.Prelude.{◌≡◌, ℕ, ◌≤◌, List, ◌∷◌, ◌++◌, not, filter, fold, Option, Some, None, Result, IfErr, ⊤}
 use Rattle.std.specs.List.{list_any}
 use Rattle.std.specs.Str.{bytes_eq}
 use Rattle.pocket_types.specs.Causes.{Rose}
@@ -31,6 +31,16 @@ rows_without cuts rows = filter (λ row. not (list_any (bytes_eq row.key) cuts))
 -- the rows after a commit: the cuts are made first, then the puts in their order
 abbrev pub committed : List KeptRow → List KeptRow → List (List ℕ) → List KeptRow
 committed rows puts cuts = rows_with puts (rows_without cuts rows)
+
+-- a fact of the rows before a call and after it, where both are told
+abbrev pub IfBothTold : Option (List KeptRow) → Option (List KeptRow) → (List KeptRow → List KeptRow → Type 0) → Type 0
+IfBothTold None now P = ⊤
+IfBothTold (Some before) None P = ⊤
+IfBothTold (Some before) (Some now) P = P before now
+
+-- the rows are as before, where both are told
+abbrev pub AreAsBefore : Option (List KeptRow) → Option (List KeptRow) → Type 0
+AreAsBefore old new = IfBothTold old new (λ before now. now ≡ before)
 
 -- the count of faults didn't fall, and `Failed` comes only where it rose
 pub record HasKeepCause {T : Type 0} (before now : ℕ) (result : Result T KeepFault) : Type 0 where

@@ -86,7 +86,7 @@ AreDetermined = (bytes : List ℕ) (one other : List Request) (rest end : Ended)
 abbrev pub IsWholeInput : List ℕ → Option (List ℕ) → Type 0
 IsWholeInput bytes left = IsAtEnd left ⊎ (16384 < length bytes)
 
--- no byte was asked for once more than 16,384 were there, in pieces of at most 512; a read fails only before that
+-- at most 16,896 bytes were read: 16,384, and one piece of 512; where a read failed, at most 16,384
 pub record IsBounded {T : Type 0} (got : List ℕ) (result : Result T WireFault) : Type 0 where
   pub few : length got ≤ 16896
   pub source : IsErrOf result fault.SourceFault → length got ≤ 16384

@@ -37,7 +37,11 @@ impl FixedClock {
 impl Clock for FixedClock {
     ghost answers = { λ c. told c.calls (replicate c.calls c.moment) };
 
-    fn now(&mut self) -> Moment {
+    fn now(&mut self) -> Moment
+        ensures adds { AddsAnswer (⟦<FixedClock as Clock>⟧.answers self.old) (⟦<FixedClock as Clock>⟧.answers self.new) result }
+        ensures untold { StaysUntold (⟦<FixedClock as Clock>⟧.answers self.old) (⟦<FixedClock as Clock>⟧.answers self.new) }
+        ensures moment { self.new.moment ≡ self.old.moment }
+    {
         self.calls = self.calls.saturating_add(1);
         self.moment
     }

@@ -34,7 +34,11 @@ impl CountingDice {
 impl Dice for CountingDice {
     ghost answers = { λ d. told d.calls (counted_words d.start d.calls) };
 
-    fn word(&mut self) -> u64 {
+    fn word(&mut self) -> u64
+        ensures adds { AddsAnswer (⟦<CountingDice as Dice>⟧.answers self.old) (⟦<CountingDice as Dice>⟧.answers self.new) result }
+        ensures untold { StaysUntold (⟦<CountingDice as Dice>⟧.answers self.old) (⟦<CountingDice as Dice>⟧.answers self.new) }
+        ensures start { self.new.start ≡ self.old.start }
+    {
         let word = self.start.wrapping_add(self.calls);
         self.calls = self.calls.saturating_add(1);
         word

@@ -71,8 +71,8 @@ impl<W: Write> Sink for HostSink<W> {
     }
 }
 
-/// The system's clock. Where the system gives no time, or one outside the years 1 to 9999, it repeats its last answer,
-/// which at first is the year 1970's begin.
+/// The system's clock. Where the system gives no time, one before 1970 or one after the year 9999, it repeats its last
+/// answer, which at first is the year 1970's begin.
 #[derive(Drop)]
 pub struct HostClock<R> {
     pub rt: R,
