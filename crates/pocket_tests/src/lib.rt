@@ -1,11 +1,20 @@
-//! Tests of the machine and of whole runs, through the public calls.
+//! What only code can say of the libraries: calls that fail, adapters over the host, clocks and dice, values that weren't read
+//! from a text, messages and laws. Cases that are text stand in `pocket_cases`.
 #![tactic(auto)]
 
 #[cfg(test)]
+mod built;
+#[cfg(test)]
+mod clocks;
+#[cfg(test)]
+mod filters;
+#[cfg(test)]
+mod keeper;
+#[cfg(test)]
 mod machine;
 #[cfg(test)]
-mod run_cases;
+mod messages;
 #[cfg(test)]
-mod runs;
+mod rows;
 #[cfg(test)]
-mod texts;
+mod wire;
