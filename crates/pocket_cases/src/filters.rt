@@ -1,0 +1,40 @@
+// Calls over the texts of filters.
+use crate::trouble::Trouble;
+use pocket_filter::{parse, print};
+use pocket_types::{Expr, FilterFault};
+use std::alloc::{AllocError, Global};
+
+/// The longest filter, in bytes.
+const LONGEST: usize = 3500;
+
+/// A fault as `!` and its name, with its place.
+pub fn told_fault(alloc: Global, fault: FilterFault) -> Result<String, AllocError> {
+    match fault {
+        FilterFault::BadByte(at) => format!(in alloc; "! BadByte {at}"),
+        FilterFault::OpenString(at) => format!(in alloc; "! OpenString {at}"),
+        FilterFault::Unexpected(at) => format!(in alloc; "! Unexpected {at}"),
+        FilterFault::NumberRange(at) => format!(in alloc; "! NumberRange {at}"),
+        FilterFault::TooLong => String::from_str(alloc, "! TooLong"),
+        FilterFault::TooDeep => String::from_str(alloc, "! TooDeep"),
+        FilterFault::TooMany => String::from_str(alloc, "! TooMany"),
+        FilterFault::Memory => String::from_str(alloc, "! Memory"),
+    }
+}
+
+/// A filter's canonical text, where this is read back to a filter with the same one or is too long for a filter.
+fn printed(alloc: Global, tree: &Expr) -> Result<String, Trouble> {
+    let text = print(alloc, tree)?;
+    match parse(alloc, text.as_str()) {
+        Ok(again) if print(alloc, &again)? == text => Ok(text.into_string()),
+        Err(FilterFault::TooLong) if text.len() > LONGEST => Ok(text.into_string()),
+        _ => Err(Trouble::Case("what is printed isn't read back")),
+    }
+}
+
+/// The canonical text of the filter that a text is, or `!` and its fault.
+pub fn parsed(alloc: Global, text: &str) -> Result<String, Trouble> {
+    match parse(alloc, text) {
+        Ok(tree) => printed(alloc, &tree),
+        Err(fault) => Ok(told_fault(alloc, fault)?),
+    }
+}

@@ -1,0 +1,89 @@
+// The calls that cases make, by their names.
+use crate::cases::head_of;
+use crate::given::Given;
+use crate::trouble::Trouble;
+use crate::{filters, paths, requests, rows, runs, stores, texts, truths, values};
+use std::alloc::Global;
+
+/// The outcome of a call that is written in a case.
+pub fn outcome(alloc: Global, given: &Given, case: &str) -> Result<String, Trouble> {
+    let (call, written) = head_of(case);
+    match call {
+        "json" => texts::json(alloc, given.bytes_of(alloc, written)?.as_slice()),
+        "request" => requests::request(alloc, given.bytes_of(alloc, written)?.as_slice()),
+        "open" => stores::opened(alloc, given, written),
+        "change" => stores::changed(alloc, given, written),
+        _ => outcome_of_text(alloc, given, call, given.text_of(alloc, written)?.as_str()),
+    }
+}
+
+fn outcome_of_text(
+    alloc: Global,
+    given: &Given,
+    call: &str,
+    text: &str,
+) -> Result<String, Trouble> {
+    match call {
+        "compare" => values::compared(alloc, text),
+        "like" => values::liked(alloc, text),
+        "lower" => values::lowered(alloc, text),
+        "cell" => values::cell(alloc, text),
+        "date" => values::date(alloc, text),
+        "macro" => values::macro_at(alloc, text),
+        _ => outcome_of_names(alloc, given, call, text),
+    }
+}
+
+fn outcome_of_names(
+    alloc: Global,
+    given: &Given,
+    call: &str,
+    text: &str,
+) -> Result<String, Trouble> {
+    match call {
+        "name" => texts::name(alloc, text),
+        "id" => texts::id(alloc, text),
+        "made" => texts::made_id(alloc, text),
+        "moment" => texts::moment(alloc, text),
+        "parse" => filters::parsed(alloc, text),
+        "rule" | "client" | "admin" => paths::resolved(alloc, given, call, text),
+        "holds" => truths::holds(alloc, given, text),
+        _ => outcome_of_rows(alloc, given, call, text),
+    }
+}
+
+fn outcome_of_rows(
+    alloc: Global,
+    given: &Given,
+    call: &str,
+    text: &str,
+) -> Result<String, Trouble> {
+    match call {
+        "key" => rows::key(alloc, text),
+        "names" => rows::own_names(alloc, text),
+        "collection" => rows::collection(alloc, text),
+        "record" => rows::record(alloc, given, text),
+        "token" => rows::token(alloc, text),
+        "plain" => rows::plain_collection(alloc, text),
+        "plain_record" => rows::plain_record(alloc, given, text),
+        "commit" => stores::committed(alloc, given, text),
+        "print" => stores::printed(alloc, text),
+        _ => outcome_of_runs(alloc, given, call, text),
+    }
+}
+
+fn outcome_of_runs(
+    alloc: Global,
+    given: &Given,
+    call: &str,
+    text: &str,
+) -> Result<String, Trouble> {
+    match call {
+        "target" => requests::target(alloc, text),
+        "phrase" => requests::phrase(alloc, text),
+        "work" => requests::work(alloc, text),
+        "pipe" => runs::pipe(alloc, given, text),
+        "row" => runs::bad_row(alloc, given, text),
+        _ => Err(Trouble::Case("no such call")),
+    }
+}

@@ -1,0 +1,185 @@
+// Calls over kept rows, each read alone.
+use crate::given::Given;
+use crate::schemas::collections_of;
+use crate::trouble::Trouble;
+use pocket_keeper::{
+    KeptRow, MemoryKeeper, read_collection, read_rec, row_of_collection, row_of_rec, row_of_token,
+    split_rec_key,
+};
+use pocket_ops::{collection_jv, has_own_names, kept_jv, rec_jv, row_len};
+use pocket_rows::{collection_of_row, rec_of_row, token_of_row};
+use pocket_types::{Cell, Collection, Jv, Rec, Seq, Text};
+use std::alloc::{AllocError, Global};
+
+/// The row of a line: its key, a space and its value.
+pub fn row_of_line(alloc: Global, line: &str) -> Result<KeptRow, AllocError> {
+    let (key, value) = line.split_once(' ').unwrap_or((line, ""));
+    Ok(KeptRow {
+        key: Text::from_str(alloc, key)?,
+        value: Text::from_str(alloc, value)?,
+    })
+}
+
+/// The rows of lines.
+pub fn rows_of_lines(alloc: Global, lines: &str) -> Result<Seq<KeptRow>, AllocError> {
+    let mut rows = Seq::new(alloc);
+    for line in lines.lines() {
+        rows.push(row_of_line(alloc, line)?)?;
+    }
+    Ok(rows)
+}
+
+/// A keeper with the rows of these lines. Of its calls these fail.
+pub fn keeper_of_lines(
+    alloc: Global,
+    lines: &str,
+    failing: Vec<u64>,
+) -> Result<MemoryKeeper, AllocError> {
+    MemoryKeeper::new(alloc, rows_of_lines(alloc, lines)?, failing)
+}
+
+/// Adds the line of a row.
+pub fn push_row(lines: &mut String, row: &KeptRow) -> Result<(), AllocError> {
+    lines.push_str(row.key.as_str())?;
+    lines.push(' ')?;
+    lines.push_str(row.value.as_str())?;
+    lines.push('\n')
+}
+
+/// The collection's name and the id in a record's key, or `none`.
+pub fn key(alloc: Global, text: &str) -> Result<String, Trouble> {
+    match split_rec_key(text) {
+        Some((name, id)) => Ok(format!(in alloc; "{name} | {id}")?),
+        None => Ok(String::from_str(alloc, "none")?),
+    }
+}
+
+/// Whether no two members of the JSON of a collection's records have one name.
+pub fn own_names(alloc: Global, text: &str) -> Result<String, Trouble> {
+    let collections = collections_of(alloc, text)?;
+    let own = collections
+        .as_slice()
+        .iter()
+        .all(|collection| has_own_names(collection));
+    Ok(String::from_str(alloc, if own { "own" } else { "twice" })?)
+}
+
+/// `read` where a tree is printed as the row that it was read from, else its text.
+fn told_tree(alloc: Global, tree: &Jv, row: &KeptRow) -> Result<String, Trouble> {
+    let text = tree.print(alloc)?;
+    let same = text == row.value;
+    Ok(if same {
+        String::from_str(alloc, "read")?
+    } else {
+        text.into_string()
+    })
+}
+
+fn refused(alloc: Global) -> Result<String, Trouble> {
+    Ok(String::from_str(alloc, "refused")?)
+}
+
+/// Whether a collection has this row.
+pub fn collection(alloc: Global, text: &str) -> Result<String, Trouble> {
+    let row = row_of_line(alloc, text)?;
+    match collection_of_row(alloc, &row)? {
+        Some(collection) => told_tree(alloc, &collection_jv(alloc, &collection)?, &row),
+        None => refused(alloc),
+    }
+}
+
+/// Adds a word and the JSON that a record shows, with its hidden fields or without them.
+fn push_shown(
+    out: &mut String,
+    alloc: Global,
+    collection: &Collection,
+    rec: &Rec,
+    hidden: bool,
+) -> Result<(), AllocError> {
+    out.push_str(if hidden { "\nadmin " } else { "\nothers " })?;
+    let text = rec_jv(alloc, collection, rec, hidden)?.print(alloc)?;
+    out.push_str(text.as_str())
+}
+
+/// What is told of a record: its row, the bytes of its value, and its JSON, as the administrator sees it and as others do.
+fn told_rec(
+    alloc: Global,
+    collection: &Collection,
+    rec: &Rec,
+    row: &KeptRow,
+) -> Result<String, Trouble> {
+    let mut out = told_tree(alloc, &kept_jv(alloc, collection, rec)?, row)?;
+    if has_own_names(collection) {
+        let bytes = row_len(collection, rec);
+        write!(&mut out, ", {bytes} bytes")?;
+    }
+    push_shown(&mut out, alloc, collection, rec, true)?;
+    push_shown(&mut out, alloc, collection, rec, false)?;
+    Ok(out)
+}
+
+/// What is told of the record of a row, of the collection whose row is given.
+pub fn record(alloc: Global, given: &Given, text: &str) -> Result<String, Trouble> {
+    let shelf = row_of_line(alloc, given.text("collection"))?;
+    let Some(collection) = collection_of_row(alloc, &shelf)? else {
+        return Err(Trouble::Case("the given row keeps no collection"));
+    };
+    let row = row_of_line(alloc, text)?;
+    match rec_of_row(alloc, &collection, &row)? {
+        Some(rec) => told_rec(alloc, &collection, &rec, &row),
+        None => refused(alloc),
+    }
+}
+
+/// `read` where a row is printed as it was read, else its line.
+fn told_row(alloc: Global, again: &KeptRow, row: &KeptRow) -> Result<String, Trouble> {
+    let same_key = again.key == row.key;
+    let same_value = again.value == row.value;
+    if same_key && same_value {
+        return Ok(String::from_str(alloc, "read")?);
+    }
+    let mut line = String::new(alloc);
+    push_row(&mut line, again)?;
+    Ok(line)
+}
+
+/// Whether a token has this row.
+pub fn token(alloc: Global, text: &str) -> Result<String, Trouble> {
+    let row = row_of_line(alloc, text)?;
+    let Some(token) = token_of_row(alloc, &row)? else {
+        return refused(alloc);
+    };
+    let again = row_of_token(alloc, &token.text, &token.collection, token.id, token.until)?;
+    told_row(alloc, &again, &row)
+}
+
+/// Whether a plain collection has this row: one that the program's own opening takes.
+pub fn plain_collection(alloc: Global, text: &str) -> Result<String, Trouble> {
+    let row = row_of_line(alloc, text)?;
+    match read_collection(alloc, &row)? {
+        Some(collection) => told_row(alloc, &row_of_collection(alloc, &collection)?, &row),
+        None => refused(alloc),
+    }
+}
+
+/// What the one cell of a record holds, if it is a text.
+fn held_text(rec: &Rec) -> &str {
+    match rec.cells.get(0) {
+        Some(Cell::Text(text)) => text.as_str(),
+        _ => "no text",
+    }
+}
+
+/// What the record of this row holds, of the plain collection whose row is given.
+pub fn plain_record(alloc: Global, given: &Given, text: &str) -> Result<String, Trouble> {
+    let shelf = row_of_line(alloc, given.text("collection"))?;
+    let Some(collection) = read_collection(alloc, &shelf)? else {
+        return Err(Trouble::Case("the given row keeps no plain collection"));
+    };
+    let row = row_of_line(alloc, text)?;
+    let Some(rec) = read_rec(alloc, &collection, &row)? else {
+        return refused(alloc);
+    };
+    let told = told_row(alloc, &row_of_rec(alloc, &collection, &rec)?, &row)?;
+    Ok(format!(in alloc; "{told}: {}", held_text(&rec))?)
+}

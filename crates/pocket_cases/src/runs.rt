@@ -1,0 +1,158 @@
+// Whole runs: a command line, kept rows and an input, and what comes of them.
+use crate::given::Given;
+use crate::rows::keeper_of_lines;
+use crate::trouble::Trouble;
+use pocket::{RunEnd, Status, Turn, run_plain};
+use pocket_ops::date_read;
+use pocket_types::Seq;
+use pocket_wire::{CountingDice, FixedClock, MemorySink, MemorySource};
+use std::alloc::{AllocError, Global};
+
+/// What a run is given beside its words.
+#[derive(Clone, Copy)]
+struct Setting<'a> {
+    words: &'a str,
+    rows: &'a str,
+    input: &'a str,
+}
+
+/// The words of a command line.
+fn words_of(alloc: Global, line: &str) -> Result<Vec<String>, AllocError> {
+    let mut words = Vec::new(alloc);
+    if !line.is_empty() {
+        for word in line.split(' ') {
+            words.push(String::from_str(alloc, word)?)?;
+        }
+    }
+    Ok(words)
+}
+
+/// The numbers behind this letter in a plan of faults: 0 and 3 behind `r` in `r0 w1 r3`.
+fn numbers(alloc: Global, faults: &str, letter: char) -> Result<Vec<u64>, Trouble> {
+    let mut found = Vec::new(alloc);
+    for fault in faults.split(' ') {
+        if let Some(number) = fault.strip_prefix(letter) {
+            found.push(number.parse::<u64>().ok().ok_or("no number of a call")?)?;
+        }
+    }
+    Ok(found)
+}
+
+/// An input in pieces of this size. Of the calls those behind `r` fail.
+fn source_of(
+    alloc: Global,
+    input: &str,
+    piece: &str,
+    faults: &str,
+) -> Result<MemorySource, Trouble> {
+    let size = piece.parse::<usize>().ok().ok_or("no size of pieces")?;
+    let bytes = Seq::from_vec(input.as_bytes().to_vec(alloc)?);
+    Ok(MemorySource::new(bytes, size.max(1), numbers(alloc, faults, 'r')?))
+}
+
+/// Adds the place, the moment and the words of each turn.
+fn push_turns(text: &mut String, turns: &[Turn]) -> Result<(), AllocError> {
+    for turn in turns {
+        let [first, second] = turn.draw.words;
+        write!(
+            text,
+            "{} {} {first} {second}",
+            turn.at,
+            turn.draw.moment.millis()
+        )?;
+    }
+    Ok(())
+}
+
+/// The key of the row to which a run's end comes down.
+fn bad_key(ended: &RunEnd) -> &str {
+    match ended {
+        RunEnd::BadStore(key) => key.as_str(),
+        _ => "",
+    }
+}
+
+/// What came of a run: the exit status, the turns, the number of accepted commands, how often clock and dice were asked, and what was
+/// sent, or the key of a bad row.
+fn told(
+    alloc: Global,
+    status: &Status,
+    clock: u64,
+    dice: u64,
+    out: &[u8],
+) -> Result<String, Trouble> {
+    let out = str::from_utf8(out).ok().ok_or("no UTF-8 was sent")?;
+    let mut text = format!(in alloc; "{} [", status.ended.code())?;
+    push_turns(&mut text, status.turns.as_slice())?;
+    let key = bad_key(&status.ended);
+    write!(
+        &mut text,
+        "] {} {clock} {dice}|{out}{key}",
+        status.journal.len()
+    )?;
+    Ok(text)
+}
+
+/// What comes of a run by a plan: the size of the pieces in which the input comes, and then the calls that fail, by their numbers: `r`
+/// reads, `w` writes and `l` loads.
+fn run(alloc: Global, setting: Setting<'_>, plan: &str) -> Result<String, Trouble> {
+    let (piece, faults) = plan.split_once(' ').unwrap_or((plan, ""));
+    let mut clock = FixedClock::new(date_read("2024-05-01 10:00").ok_or("no moment")?);
+    let mut dice = CountingDice::new(0);
+    let words = words_of(alloc, setting.words)?;
+    let mut source = source_of(alloc, setting.input, piece, faults)?;
+    let mut sink = MemorySink::new(Seq::new(alloc), numbers(alloc, faults, 'w')?);
+    let mut keeper = keeper_of_lines(alloc, setting.rows, numbers(alloc, faults, 'l')?)?;
+    let status = run_plain(
+        alloc,
+        words.as_slice(),
+        &mut source,
+        &mut sink,
+        &mut keeper,
+        &mut clock,
+        &mut dice,
+    );
+    told(alloc, &status, clock.calls, dice.calls, sink.bytes())
+}
+
+/// What comes of a run by each of some plans.
+fn run_all(alloc: Global, setting: Setting<'_>, plans: &str) -> Result<String, Trouble> {
+    let (first, others) = plans.split_once('/').unwrap_or((plans, ""));
+    let outcome = run(alloc, setting, first)?;
+    for plan in others.split('/').filter(|plan| !plan.is_empty()) {
+        let found = run(alloc, setting, plan)?;
+        if found != outcome {
+            return Ok(format!(in alloc; "{outcome}, but {found} by {plan}")?);
+        }
+    }
+    Ok(outcome)
+}
+
+/// What comes of this input, with the given `words` and `rows`, by each of the given `plans`.
+pub fn pipe(alloc: Global, given: &Given, input: &str) -> Result<String, Trouble> {
+    let setting = Setting {
+        words: given.text("words"),
+        rows: given.text("rows"),
+        input,
+    };
+    run_all(alloc, setting, given.text("plans"))
+}
+
+/// What comes of the given rows with a bad one in place of that of its key, alone and before another one.
+pub fn bad_row(alloc: Global, given: &Given, line: &str) -> Result<String, Trouble> {
+    let alone = format!(in alloc; "{}\n{line}", given.text("rows"))?;
+    let before = format!(in alloc; "{}\nt/z\n{line}", given.text("rows"))?;
+    let setting = Setting {
+        words: given.text("words"),
+        rows: alone.as_str(),
+        input: "GET",
+    };
+    let outcome = run(alloc, setting, "100000 r0 w0")?;
+    let rows = before.as_str();
+    let found = run(alloc, Setting { rows, ..setting }, "100000 r0 w0")?;
+    if found == outcome {
+        Ok(outcome)
+    } else {
+        Ok(format!(in alloc; "{outcome}, but {found} before t/z")?)
+    }
+}
