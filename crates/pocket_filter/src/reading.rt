@@ -1,9 +1,11 @@
 // From a text to its tree.
-ghost use Rattle.std.specs.Prelude.{◌≡◌, ◌≢◌, IfOk, IfErr, Result, List};
+ghost use Rattle.std.specs.Prelude.{◌≡◌, ◌≢◌, ℕ, IfOk, IfErr, Result, List};
+ghost use Rattle.std.specs.Str.{IsUtf8};
 ghost use Rattle.pocket_types.specs.declared.expr.Expr.{Expr};
 ghost use Rattle.pocket_types.specs.declared.faults.FilterFault.{FilterFault};
 ghost use Rattle.pocket_filter.specs.Filters.{IsFilter, IsFault, IsVerdict, IsAnswer};
 ghost use Rattle.pocket_filter.specs.Grammar.{IsOr};
+ghost use Rattle.pocket_filter.specs.Parsed.{parsed};
 ghost use Rattle.pocket_filter.specs.Tokens.{Lexeme};
 
 use crate::lexer::tokens;
@@ -44,6 +46,12 @@ fn read(alloc: Global, text: &str) -> Result<Expr, FilterFault>
     }
     Ok(tree)
 }
+
+/// Each text has one verdict, that which it is parsed to: it is a filter with this tree, or has this fault.
+pub fn each_text_has_one_verdict()
+    ensures has { (text : List ℕ) → IsUtf8 text → IsVerdict text (parsed text) }
+    ensures one { (text : List ℕ) (verdict : Result Expr FilterFault) → IsUtf8 text → IsVerdict text verdict → parsed text ≡ verdict }
+{}
 
 /// Trees are determined: tokens that are a filter are it with one tree alone.
 pub fn trees_are_determined()
