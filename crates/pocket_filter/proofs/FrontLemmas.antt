@@ -1,5 +1,5 @@
 -- What is found at the front of a text stands there.
-use Rattle.std.proofs.Common.{◌≡◌, ◌<◌, ◌≤◌, ◌+◌, ◌^◌, ◌==◌, ◌||◌, ℕ, zero, suc, ℤ, Bool, true, false, cond, List, [], ◌∷◌, length, take, drop, slice_index, Option, Some, None, refl, sym, ap, subst, ◌∙◌, arith, ne_eqb}
+use Rattle.std.proofs.Common.{◌≡◌, ◌<◌, ◌≤◌, ◌+◌, ◌==◌, ◌||◌, ℕ, zero, suc, ℤ, Bool, true, false, cond, List, [], ◌∷◌, length, take, drop, slice_index, Option, Some, None, refl, sym, ap, subst, ◌∙◌, arith, ne_eqb}
 use Rattle.std.proofs.lemmas.Bool.{eqb-true, eqb-false}
 use Rattle.std.proofs.lemmas.Str.Parse.{digit_from_value}
 use Rattle.std.specs.List.{prefix_len}
@@ -9,9 +9,9 @@ use Rattle.pocket_types.specs.Names.{is_digit}
 use Rattle.pocket_filter.specs.declared.lexer.Start.{Start}
 use Rattle.pocket_filter.specs.declared.lexer.Start.TheVariants as start
 use Rattle.pocket_filter.specs.Fronts as front
-use Rattle.pocket_filter.specs.Fronts.{Front, comment, front_by, ident, ident_front, mark, mark_front, number, number_behind, number_front, number_value, quoted_front, quoted_text, start_of}
+use Rattle.pocket_filter.specs.Fronts.{Front, begun_by, comment_front, front_by, ident_front, ident_of_len, mark_front, mark_token, number_behind, number_front, number_ranged, number_value, quoted_front, quoted_inside}
 use Rattle.pocket_filter.specs.Lexing.{TakesLongest, TakesSeparator, BeginsNoToken, BeginsNoSeparator, IsInRange, IsNumber, is_blank, is_quote, with_minus}
-use Rattle.pocket_filter.specs.Scanning.{begins_name, class, closing, in_line, in_range, mark_of, path_len, sign_len}
+use Rattle.pocket_filter.specs.Scanning.{begins_name, class, closing, in_line, in_range, mark_of, sign_len}
 use Rattle.pocket_filter.specs.Tokens.{Lexeme}
 use Rattle.pocket_filter.proofs.Fronts.{index_rest}
 use Rattle.pocket_filter.proofs.Idents.{ident_found, ident_len, ident_start, no_ident}
@@ -29,7 +29,7 @@ IsFront text front.NoToken = (is_quote (slice_index text 0) ≡ false) × Begins
 
 -- ---- by what a text begins with
 
-comment_is : (text : List ℕ) → slice_index text 0 ≡ 47 → IsFront text (comment text)
+comment_is : (text : List ℕ) → slice_index text 0 ≡ 47 → IsFront text (comment_front text)
 comment_is text e = by (slice_index text 1 == 47) refl
   where
     by : (b : Bool) → (slice_index text 1 == 47) ≡ b → IsFront text (cond b (front.Separator (prefix_len in_line text)) front.NoToken)
@@ -40,15 +40,15 @@ comment_is text e = by (slice_index text 1 == 47) refl
       no_mark text (ap class e) (ap (λ b. mark_of b (slice_index text 1) (slice_index text 2)) e),
     )
 
-quoted_is : (text : List ℕ) → IsUtf8 text → is_quote (slice_index text 0) ≡ true → IsFront text (quoted_text text)
+quoted_is : (text : List ℕ) → IsUtf8 text → is_quote (slice_index text 0) ≡ true → IsFront text (quoted_front text)
 quoted_is text utf8 e = by (closing (slice_index text 0) false 0 (drop 1 text)) refl
   where
-    by : (o : Option ℕ) → closing (slice_index text 0) false 0 (drop 1 text) ≡ o → IsFront text (quoted_front text o)
+    by : (o : Option ℕ) → closing (slice_index text 0) false 0 (drop 1 text) ≡ o → IsFront text (quoted_inside text o)
     by None f = (e, text_open text e f)
     by (Some inside) f = let t = text_found text inside utf8 e f in (omega arith, t.0, tt, t.1)
 
 -- a number is the value of its token
-pub number_is_value : (word : List ℕ) (n : ℤ) → IsNumber word n → n ≡ number_value word
+number_is_value : (word : List ℕ) (n : ℤ) → IsNumber word n → n ≡ number_value word
 number_is_value word n (true, digits, numeral, e, v) = v ∙ sym (ap number_value e)
 number_is_value word n (false, [], numeral, e, v) = let some : 0 < 0 = numeral.0 in absurd (omega arith)
 number_is_value word n (false, d ∷ digits, numeral, e, v) =
@@ -57,14 +57,25 @@ number_is_value word n (false, d ∷ digits, numeral, e, v) =
     let apart : (d == 45) ≡ false = ne_eqb d 45 (λ f. omega arith) in
     v ∙ sym (ap number_value e ∙ ap (λ b. cond b (with_minus true (digits_value 10 digits)) (with_minus false (digits_value 10 (d ∷ digits)))) apart)
 
-number_is : (text : List ℕ) → IsUtf8 text → class (slice_index text 0) ≡ 2 → IsFront text (number text)
+-- digits make a number, if it is in range
+number_behind_is : (sign digits : ℕ) (text : List ℕ) → 0 < digits → number_behind sign digits text ≡ number_ranged (sign + digits) (in_range (number_value (take (sign + digits) text)))
+number_behind_is sign zero text some = absurd (omega arith)
+number_behind_is sign (suc n) text some = refl
+
+pub number_ranged_is : (text : List ℕ) (o : Option ℤ) (n : ℤ) → 0 < prefix_len is_digit (drop (sign_len 45 (slice_index text 0)) text) → IsNumber (take (number_len text) text) n → in_range n ≡ o
+    → number_front text ≡ number_ranged (number_len text) o
+number_ranged_is text o n some spelled e =
+    number_behind_is (sign_len 45 (slice_index text 0)) (prefix_len is_digit (drop (sign_len 45 (slice_index text 0)) text)) text some
+    ∙ ap (λ m. number_ranged (number_len text) (in_range m)) (sym (number_is_value (take (number_len text) text) n spelled)) ∙ ap (number_ranged (number_len text)) e
+
+number_is : (text : List ℕ) → IsUtf8 text → class (slice_index text 0) ≡ 2 → IsFront text (number_front text)
 number_is text utf8 h = by (prefix_len is_digit (drop (sign_len 45 (slice_index text 0)) text)) refl
   where
     sign : ℕ
     sign = sign_len 45 (slice_index text 0)
 
     ranged : (len : ℕ) → 0 < len → TakesLongest text len (Lexeme.Number (number_value (take len text))) → IsCharBoundary text len
-        → (o : Option ℤ) → in_range (number_value (take len text)) ≡ o → IsFront text (number_front len o)
+        → (o : Option ℤ) → in_range (number_value (take len text)) ≡ o → IsFront text (number_ranged len o)
     ranged len some longest boundary None e = (len, Lexeme.Number (number_value (take len text)), longest, range_none (number_value (take len text)) e)
     ranged len some longest boundary (Some n) e =
         let r = range_some (number_value (take len text)) n e in
@@ -81,7 +92,7 @@ number_is text utf8 h = by (prefix_len is_digit (drop (sign_len 45 (slice_index 
         ranged (sign + suc n) positive (subst (λ k. TakesLongest text k (Lexeme.Number (number_value (take k text)))) len value) (subst (IsCharBoundary text) len found.3)
         (in_range (number_value (take (sign + suc n) text))) refl
 
-ident_is : (text : List ℕ) → IsUtf8 text → class (slice_index text 0) ≡ 3 → IsFront text (ident text)
+ident_is : (text : List ℕ) → IsUtf8 text → class (slice_index text 0) ≡ 3 → IsFront text (ident_front text)
 ident_is text utf8 h = by (begins_name (slice_index text sign)) refl
   where
     sign : ℕ
@@ -90,14 +101,14 @@ ident_is text utf8 h = by (begins_name (slice_index text sign)) refl
     first : slice_index text sign ≡ slice_index (drop sign text) 0
     first = index_rest text text sign sign refl refl
 
-    by : (b : Bool) → begins_name (slice_index text sign) ≡ b → IsFront text (cond b (ident_front (ident_len text) text) front.NoToken)
+    by : (b : Bool) → begins_name (slice_index text sign) ≡ b → IsFront text (cond b (ident_of_len (ident_len text) text) front.NoToken)
     by true e = let t = ident_found text utf8 h (sym (ap begins_name first) ∙ e) in (t.0, t.1, tt, t.2)
     by false e = let s = ident_start (slice_index text 0) h in (s.0, s.1 text refl, no_ident text h (sym (ap begins_name first) ∙ e))
 
-mark_is : (text : List ℕ) → IsUtf8 text → class (slice_index text 0) ≡ 0 → is_blank (slice_index text 0) ≡ false → (slice_index text 0 ≡ 47 → ⊥) → IsFront text (mark text)
+mark_is : (text : List ℕ) → IsUtf8 text → class (slice_index text 0) ≡ 0 → is_blank (slice_index text 0) ≡ false → (slice_index text 0 ≡ 47 → ⊥) → IsFront text (mark_front text)
 mark_is text utf8 h blank slash = by (mark_of (slice_index text 0) (slice_index text 1) (slice_index text 2)) refl
   where
-    by : (o : Option (Lexeme × ℕ)) → mark_of (slice_index text 0) (slice_index text 1) (slice_index text 2) ≡ o → IsFront text (mark_front o)
+    by : (o : Option (Lexeme × ℕ)) → mark_of (slice_index text 0) (slice_index text 1) (slice_index text 2) ≡ o → IsFront text (mark_token o)
     by None e = (mark_start (slice_index text 0) h, no_separator text blank (λ f _. slash f), no_mark text h e)
     by (Some m) e = mark_found text m.0 m.1 utf8 h e
 
@@ -123,7 +134,7 @@ starts_by b blank slash false true name e f g = rw (e, f) refl
 starts_by b blank slash false false true e f g = rw (e, f, g) refl
 starts_by b blank slash false false false e f g = (rw (e, f, g) refl, blank, slash)
 
-starts : (b : ℕ) → Starts b (start_of b)
+starts : (b : ℕ) → Starts b (begun_by b)
 starts b = blank (is_blank b) refl
   where
     slash : (t : Bool) → (b == 47) ≡ t → is_blank b ≡ false → Starts b (cond t start.Slash (by_class (is_quote b) (b == 45 || is_digit b) (b == 64 || begins_name b)))
@@ -143,4 +154,8 @@ front_started text utf8 some start.Ident h = ident_is text utf8 h
 front_started text utf8 some start.Mark h = mark_is text utf8 h.0 h.1 h.2
 
 pub front_is : (text : List ℕ) → IsUtf8 text → 0 < length text → IsFront text (front.front text)
-front_is text utf8 some = front_started text utf8 some (start_of (slice_index text 0)) (starts (slice_index text 0))
+front_is text utf8 some = front_started text utf8 some (begun_by (slice_index text 0)) (starts (slice_index text 0))
+
+-- what is found to be the front is there
+pub front_found : (text : List ℕ) (f : Front) → IsUtf8 text → 0 < length text → f ≡ front.front text → IsFront text f
+front_found text f utf8 some e = subst (IsFront text) (sym e) (front_is text utf8 some)

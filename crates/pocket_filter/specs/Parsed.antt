@@ -43,6 +43,9 @@ parsed text = do
   _ ← refuse (nat_lt 100 (comparisons tree)) fault.TooMany
   Ok tree
 
--- what a call gives: the answer, or that memory is wanting
+-- what a call gives: the answer, as its value is seen, or that memory is wanting
+abbrev pub GivesAs : {A B : Type 0} → (A → B) → Result A FilterFault → Result B FilterFault → Type 0
+GivesAs seen result answer = MatchResult result (λ x. answer ≡ Ok (seen x)) (λ e. e ≢ fault.Memory → answer ≡ Err e)
+
 abbrev pub Gives : {A : Type 0} → Result A FilterFault → Result A FilterFault → Type 0
-Gives result answer = MatchResult result (λ x. answer ≡ Ok x) (λ e. e ≢ fault.Memory → answer ≡ Err e)
+Gives = GivesAs (λ x. x)

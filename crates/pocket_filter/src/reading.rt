@@ -5,7 +5,7 @@ ghost use Rattle.pocket_types.specs.declared.expr.Expr.{Expr};
 ghost use Rattle.pocket_types.specs.declared.faults.FilterFault.{FilterFault};
 ghost use Rattle.pocket_filter.specs.Filters.{IsFilter, IsFault, IsVerdict, IsAnswer};
 ghost use Rattle.pocket_filter.specs.Grammar.{IsOr};
-ghost use Rattle.pocket_filter.specs.Parsed.{parsed};
+ghost use Rattle.pocket_filter.specs.Parsed.{Gives, parsed};
 ghost use Rattle.pocket_filter.specs.Tokens.{Lexeme};
 
 use crate::lexer::tokens;
@@ -23,15 +23,18 @@ pub fn parse(alloc: Global, text: &str) -> Result<Expr, FilterFault>
     ensures ok { IfOk result (λ tree. IsFilter text.now tree) }
     ensures fault { IfErr result (λ fault. fault ≢ FilterFault.Memory → IsFault text.now fault) }
 
+    // The answer is what the text is parsed to, unless memory runs out.
+    ensures value { Gives result (parsed text.now) }
+
     // What the text is, is answered, unless memory runs out: a text is one filter or has one fault.
     ensures only { (verdict : Result Expr FilterFault) → IsVerdict text.now verdict → IsAnswer verdict result }
 {
     read(alloc, text)
 }
 
+#[tactic(auto, unfolding(crate::specs::Parsed::parsed))]
 fn read(alloc: Global, text: &str) -> Result<Expr, FilterFault>
-    ensures ok { IfOk result (λ tree. IsFilter text.now tree) }
-    ensures fault { IfErr result (λ fault. fault ≢ FilterFault.Memory → IsFault text.now fault) }
+    ensures { Gives result (parsed text.now) }
 {
     if text.len() > MAX_BYTES {
         return Err(FilterFault::TooLong);
