@@ -1,4 +1,4 @@
-use Rattle.std.proofs.Common.{◌+◌, sym, ◌∙◌, arith}
+use Rattle.std.proofs.Common.{sym, ◌∙◌, arith}
 use Rattle.std.proofs.lemmas.List.{take_rest}
 use Rattle.pocket_filter.proofs.Texts.{text_found}
 use Rattle.pocket_filter.proofs.lexer.quoted.Goals as goal
