@@ -1,6 +1,8 @@
+pub mod Counted
 pub mod Counts
 pub mod Depths
 pub mod Escapes
+pub mod FrontLemmas
 pub mod Fronts
 pub mod Holding
 pub mod Idents
@@ -8,6 +10,7 @@ pub mod Marks
 pub mod Numbers
 pub mod OneReading
 pub mod OneVerdict
+pub mod ParsedLemmas
 pub mod Parts
 pub mod PrintedLexing
 pub mod PrintedOperands

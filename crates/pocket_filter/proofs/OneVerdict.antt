@@ -8,6 +8,7 @@ use Rattle.pocket_filter.specs.Faults.{Placed, lexemes, HasTree, BeginsFilter, I
 use Rattle.pocket_filter.specs.Filters.{HasLexicalFault, IsFault, IsFilter, IsVerdict, IsAnswer}
 use Rattle.pocket_filter.specs.Grammar.{IsOr}
 use Rattle.pocket_filter.specs.Lexing.{Lexes}
+use Rattle.pocket_filter.specs.Parsed.{Gives}
 use Rattle.pocket_filter.specs.Tokens.{Lexeme}
 use Rattle.pocket_filter.proofs.OneReading.{same_lexing}
 use Rattle.pocket_filter.proofs.TreesRead.{one_tree}
@@ -133,21 +134,22 @@ same_steps text v w (inr (short, a)) (inr (brief, b)) =
 pub one_verdict : (text : List ℕ) (v w : Result Expr FilterFault) → IsVerdict text v → IsVerdict text w → v ≡ w
 one_verdict text v w h k = same_steps text v w (steps text v h) (steps text w k)
 
-known : (text : List ℕ) (fault : FilterFault) (v : Result Expr FilterFault) → fault ≢ faults.Memory → (fault ≢ faults.Memory → IsFault text fault) → IsVerdict text v → IsAnswer v (Err fault)
-known text fault v other h k = inl (one_verdict text (Err fault) v (h other) k)
+-- what is given of a text's one verdict is the verdict, unless memory ran out
+pub known : (text : List ℕ) (r v : Result Expr FilterFault) → Gives r v → IsVerdict text v → IfOk r (λ tree. IsFilter text tree) × IfErr r (λ fault. fault ≢ faults.Memory → IsFault text fault)
+known text (Ok tree) v g h = (subst (IsVerdict text) g h, tt)
+known text (Err fault) v g h = (tt, λ other. subst (IsVerdict text) (g other) h)
 
-failed : (text : List ℕ) (fault : FilterFault) (v : Result Expr FilterFault) → (fault ≢ faults.Memory → IsFault text fault) → IsVerdict text v → IsAnswer v (Err fault)
-failed text faults.Memory v h k = inr refl
-failed text faults.TooLong v h k = known text _ v (λ e. cc) h k
-failed text faults.TooDeep v h k = known text _ v (λ e. cc) h k
-failed text faults.TooMany v h k = known text _ v (λ e. cc) h k
-failed text (faults.BadByte at) v h k = known text _ v (λ e. cc) h k
-failed text (faults.OpenString at) v h k = known text _ v (λ e. cc) h k
-failed text (faults.NumberRange at) v h k = known text _ v (λ e. cc) h k
-failed text (faults.Unexpected at) v h k = known text _ v (λ e. cc) h k
+failed : (fault : FilterFault) (v : Result Expr FilterFault) → (fault ≢ faults.Memory → v ≡ Err fault) → IsAnswer v (Err fault)
+failed faults.Memory v g = inr refl
+failed faults.TooLong v g = inl (sym (g (λ e. cc)))
+failed faults.TooDeep v g = inl (sym (g (λ e. cc)))
+failed faults.TooMany v g = inl (sym (g (λ e. cc)))
+failed (faults.BadByte at) v g = inl (sym (g (λ e. cc)))
+failed (faults.OpenString at) v g = inl (sym (g (λ e. cc)))
+failed (faults.NumberRange at) v g = inl (sym (g (λ e. cc)))
+failed (faults.Unexpected at) v g = inl (sym (g (λ e. cc)))
 
 -- what a text is, is answered, unless memory runs out
-pub answered : (text : List ℕ) (r v : Result Expr FilterFault) → IfOk r (λ tree. IsFilter text tree) → IfErr r (λ fault. fault ≢ faults.Memory → IsFault text fault)
-    → IsVerdict text v → IsAnswer v r
-answered text (Ok tree) v h k verdict = inl (one_verdict text (Ok tree) v h verdict)
-answered text (Err fault) v h k verdict = failed text fault v k verdict
+pub answered : (text : List ℕ) (r v w : Result Expr FilterFault) → Gives r v → IsVerdict text v → IsVerdict text w → IsAnswer w r
+answered text (Ok tree) v w g h k = inl (sym g ∙ one_verdict text v w h k)
+answered text (Err fault) v w g h k = subst (λ u. IsAnswer u (Err fault)) (one_verdict text v w h k) (failed fault v g)

@@ -3,8 +3,6 @@ use Rattle.std.specs.Prelude.{◌≡◌, ◌<◌, ◌+◌, ◌-◌, ◌++◌, �
 use Rattle.pocket_types.specs.declared.expr.Expr.{Expr, fold-Expr}
 use Rattle.pocket_types.specs.declared.expr.Expr.TheOpen as expr
 use Rattle.pocket_types.specs.declared.expr.Expr.TheOpen.{Expr-F}
-use Rattle.pocket_types.specs.declared.faults.FilterFault.{FilterFault}
-use Rattle.pocket_types.specs.declared.faults.FilterFault.TheVariants as faults
 use Rattle.pocket_filter.specs.Grammar.{IsOr}
 use Rattle.pocket_filter.specs.Tokens.{Lexeme}
 
@@ -43,12 +41,6 @@ pub data IsUnexpected (end : ℕ) (ts : List Placed) (at : ℕ) : Type 0 where
   token : (front rest : List Placed) (t : Placed) → ts ≡ front ++ t ∷ rest → at ≡ t.0
       → BeginsFilter (lexemes front) → (BeginsFilter (lexemes (front ++ t ∷ [])) → ⊥) → IsUnexpected end ts at
   at_end : at ≡ end → BeginsFilter (lexemes ts) → (HasTree (lexemes ts) → ⊥) → IsUnexpected end ts at
-
--- tokens are refused for the first that can't stand, or for want of memory
-abbrev pub AreRefused : ℕ → List Placed → FilterFault → Type 0
-AreRefused end ts faults.Memory = Unit {0}
-AreRefused end ts (faults.Unexpected at) = IsUnexpected end ts at
-AreRefused end ts _ = ⊥
 
 -- ---- comparisons
 

@@ -1,8 +1,10 @@
 pub mod Faults
 pub mod Filters
+pub mod Fronts
 pub mod Grammar
 pub mod Lexing
 pub mod Operands
+pub mod Parsed
 pub mod Parsing
 pub mod Printed
 pub mod Printing

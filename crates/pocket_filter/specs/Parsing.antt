@@ -1,13 +1,11 @@
 -- How the parser goes on, a token at a time. Only contracts inside this crate speak of it.
-use Rattle.std.specs.Prelude.{◌≡◌, ℕ, Bool, List, [], ◌∷◌, Option, Some, None, option_map, option_and_then, reverse}
+use Rattle.std.specs.Prelude.{Bool, List, [], ◌∷◌, Option, Some, None, option_map, option_and_then, reverse}
 use Rattle.pocket_types.specs.declared.expr.Expr.{Expr}
 use Rattle.pocket_types.specs.declared.expr.Expr.TheVariants as made
 use Rattle.pocket_types.specs.declared.expr.Op.{Op}
 use Rattle.pocket_types.specs.declared.expr.Operand.{Operand}
 use Rattle.pocket_filter.specs.Operands.{operand}
 use Rattle.pocket_filter.specs.Tokens.{Lexeme}
-use Rattle.pocket_types.specs.declared.faults.FilterFault.{FilterFault}
-use Rattle.pocket_types.specs.declared.faults.FilterFault.TheVariants as faults
 use Rattle.pocket_filter.specs.declared.parser.Group.{Group}
 use Rattle.pocket_filter.specs.declared.parser.Want.{Want}
 use Rattle.pocket_filter.specs.declared.parser.Want.TheVariants as want
@@ -90,9 +88,3 @@ finish_want _ _ _ = None
 -- the tree, where the tokens may end
 unfoldable pub finish : State → Option Expr
 finish s = finish_want s.outer s.group s.want
-
--- nothing may stand at this place, or memory ran out
-abbrev pub IsRefusal : {X : Type 0} → ℕ → Option X → FilterFault → Type 0
-IsRefusal at next faults.Memory = Unit {0}
-IsRefusal at next (faults.Unexpected place) = (place ≡ at) × (next ≡ None)
-IsRefusal at next _ = ⊥

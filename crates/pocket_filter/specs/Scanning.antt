@@ -1,15 +1,10 @@
 -- How far a scan of the lexer goes. That these are the longest tokens is a matter of proofs/.
-use Rattle.std.specs.Prelude.{◌≡◌, ◌≢◌, ℕ, suc, ◌+◌, ◌<◌, ◌==◌, ◌||◌, ◌&&◌, not, List, [], ◌∷◌, length, slice_index, Bool, true, false, if◌then◌else◌, Option, Some, None, option_map, IsTrue, ℤ, unsigned_abs, nat_lt, ◌^◌, ◌++◌, encode_utf8}
-use Rattle.std.specs.Str.{IsCharBoundary}
+use Rattle.std.specs.Prelude.{ℕ, suc, ◌+◌, ◌==◌, ◌||◌, ◌&&◌, not, List, [], ◌∷◌, length, slice_index, Bool, true, false, if◌then◌else◌, Option, Some, None, option_map, ℤ, unsigned_abs, nat_lt, ◌^◌, ◌++◌, encode_utf8}
 use Rattle.pocket_types.specs.Names.{is_digit, is_letter, is_word}
 use Rattle.pocket_types.specs.declared.expr.Op.{Op}
 use Rattle.pocket_types.specs.declared.expr.Op.TheVariants.{Eq, Ne, Gt, Ge, Lt, Le, Like, Unlike}
-use Rattle.pocket_filter.specs.declared.lexer.Piece.{Piece}
-use Rattle.pocket_filter.specs.declared.lexer.Piece.TheVariants as piece
-use Rattle.pocket_filter.specs.declared.lexer.Start.{Start}
-use Rattle.pocket_filter.specs.declared.lexer.Start.TheVariants as start
-use Rattle.pocket_filter.specs.Tokens.{Lexeme, lexeme_of, Open, Close, And, Or, Test}
-use Rattle.pocket_filter.specs.Lexing.{TakesLongest, TakesSeparator, BeginsNoToken, BeginsNoSeparator, IsInRange, is_blank, is_quote, op_text}
+use Rattle.pocket_filter.specs.Tokens.{Lexeme, Open, Close, And, Or, Test}
+use Rattle.pocket_filter.specs.Lexing.{is_quote, op_text}
 
 -- a letter or `_`
 abbrev pub begins_name : ℕ → Bool
@@ -18,15 +13,6 @@ begins_name b = is_letter b || b == 95
 -- What the first byte of a token tells of it: 1 for a text, 2 for a number, 3 for an ident and 0 for all else.
 abbrev pub class : ℕ → ℕ
 class b = if is_quote b then 1 else (if b == 45 || is_digit b then 2 else (if b == 64 || begins_name b then 3 else 0))
-
--- what a byte begins, told what the lexer takes it for
-abbrev pub Starts : ℕ → Start → Type 0
-Starts b start.Blank = is_blank b ≡ true
-Starts b start.Slash = b ≡ 47
-Starts b start.Quote = is_quote b ≡ true
-Starts b start.Number = class b ≡ 2
-Starts b start.Ident = class b ≡ 3
-Starts b start.Mark = (class b ≡ 0) × (b ≢ 47) × (is_blank b ≡ false)
 
 -- no line feed
 abbrev pub in_line : ℕ → Bool
@@ -90,11 +76,3 @@ given_by quote escaped c =
 abbrev pub given : ℕ → Bool → List ℕ → List ℕ
 given quote escaped [] = if escaped then 92 ∷ [] else []
 given quote escaped (c ∷ rest) = given_by quote escaped c ++ given quote (escapes escaped c) rest
-
--- what the lexer finds at the front of bytes, of which there is one
-abbrev pub IsFirstPiece : List ℕ → Piece → Type 0
-IsFirstPiece bytes (piece.Separator n) = (0 < n) × TakesSeparator bytes n × IsCharBoundary bytes n
-IsFirstPiece bytes (piece.Token kind n) = (0 < n) × TakesLongest bytes n (lexeme_of kind) × IsInRange (lexeme_of kind) × IsCharBoundary bytes n
-IsFirstPiece bytes piece.OverRange = (n : ℕ) × (lexeme : Lexeme) × TakesLongest bytes n lexeme × (IsInRange lexeme → ⊥)
-IsFirstPiece bytes piece.OpenText = IsTrue (is_quote (slice_index bytes 0)) × BeginsNoToken bytes
-IsFirstPiece bytes piece.NoToken = (is_quote (slice_index bytes 0) ≡ false) × BeginsNoSeparator bytes × BeginsNoToken bytes

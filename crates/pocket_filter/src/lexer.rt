@@ -1,12 +1,13 @@
 // From a text to its tokens.
-ghost use Rattle.std.specs.Prelude.{◌≡◌, ◌≢◌, ◌+◌, ◌<◌, ◌≤◌, ◌==◌, ◌&&◌, ℕ, ℤ, List, length, drop, map, slice_index, false, IsTrue, IfOk, IfErr, MatchOption};
+ghost use Rattle.std.specs.Prelude.{◌≡◌, ◌<◌, ◌≤◌, ◌&&◌, ℤ, length, map, slice_index, false, IsTrue, MatchOption};
 ghost use Rattle.std.specs.List.{prefix_len};
-ghost use Rattle.std.specs.Str.{IsCharBoundary};
 ghost use Rattle.pocket_types.specs.Names.{is_digit, is_word};
-ghost use Rattle.pocket_filter.specs.Tokens.{placed, Lexeme, lexeme_of};
-ghost use Rattle.pocket_filter.specs.Lexing.{Lexes, IsNumber, is_blank, is_quote, op_text};
+ghost use Rattle.pocket_filter.specs.Fronts.{front_as, front, begun_by, comment_front, quoted_front, number_front, ident_front, mark_front};
+ghost use Rattle.pocket_filter.specs.Lexing.{IsNumber, is_quote, op_text};
+ghost use Rattle.pocket_filter.specs.Parsed.{GivesAs, tokens_from};
+ghost use Rattle.pocket_filter.specs.Scanning.{class, in_line, begins_name as begins_name_of, op_of, mark_of, sign_len as sign_len_of, in_range, joins, path_len, closing};
 ghost use Rattle.pocket_filter.specs.Stray.{StrayMarksAreBadBytes};
-ghost use Rattle.pocket_filter.specs.Scanning.{IsFirstPiece, Starts, class, in_line, begins_name as begins_name_of, op_of, mark_of, sign_len as sign_len_of, in_range, joins, path_len, closing};
+ghost use Rattle.pocket_filter.specs.Tokens.{placed, lexeme_of};
 
 use crate::tokens::{Token, TokenKind};
 use pocket_types::{FilterFault, Op};
@@ -30,9 +31,7 @@ enum Piece<'t> {
 /// The tokens of a text, or its first lexical fault. Takes time linear in the text.
 pub fn tokens<'t>(alloc: Global, text: &'t str) -> Result<Vec<Token<'t>>, FilterFault>
     requires { length text.now ≤ 3500 }
-    ensures ok { IfOk result (λ tokens. Lexes 0 text.now (map placed tokens.items) None) }
-    ensures fault { IfErr result (λ fault. fault ≢ FilterFault.Memory
-        → (found : List (ℕ × Lexeme)) × Lexes 0 text.now found (Some fault)) }
+    ensures { GivesAs (λ tokens. map placed tokens.items) result (tokens_from 0 0 text.now) }
 {
     let mut found = Vec::new(alloc);
     let mut rest = text;
@@ -74,7 +73,7 @@ enum Start {
 
 #[tactic(auto, using(std::proofs::lemmas::Bool::Decides::nat_tests))]
 fn start_of(first: u8) -> Start
-    ensures { Starts first result }
+    ensures { result ≡ begun_by first }
 {
     match first {
         b' ' | b'\t' | b'\r' | b'\n' => Start::Blank,
@@ -89,7 +88,7 @@ fn start_of(first: u8) -> Start
 /// What stands at the front of a text that isn't empty.
 fn first_piece<'t>(text: &'t str) -> Piece<'t>
     requires { 0 < length text.now }
-    ensures { IsFirstPiece text.now result }
+    ensures { front_as result ≡ front text.now }
 {
     let bytes = text.as_bytes();
     match start_of(bytes[0]) {
@@ -104,8 +103,7 @@ fn first_piece<'t>(text: &'t str) -> Piece<'t>
 
 /// A comment, which goes on to the next line feed or the end.
 fn comment<'t>(text: &'t str) -> Piece<'t>
-    requires { slice_index text.now 0 ≡ 47 }
-    ensures { IsFirstPiece text.now result }
+    ensures { front_as result ≡ comment_front text.now }
 {
     let bytes = text.as_bytes();
     if byte_at(bytes, 1) != b'/' {
@@ -124,7 +122,7 @@ fn line_len(bytes: &[u8]) -> usize
 /// A text between quotes.
 fn quoted<'t>(text: &'t str) -> Piece<'t>
     requires { IsTrue (is_quote (slice_index text.now 0)) }
-    ensures { IsFirstPiece text.now result }
+    ensures { front_as result ≡ quoted_front text.now }
 {
     let bytes = text.as_bytes();
     match closing_quote(bytes[0], &bytes[1..]) {
@@ -156,7 +154,7 @@ fn closing_quote(quote: u8, bytes: &[u8]) -> Option<usize>
 /// A number.
 fn number<'t>(text: &'t str) -> Piece<'t>
     requires { class (slice_index text.now 0) ≡ 2 }
-    ensures { IsFirstPiece text.now result }
+    ensures { front_as result ≡ number_front text.now }
 {
     let bytes = text.as_bytes();
     let start = sign_len(b'-', bytes[0]);
@@ -202,7 +200,7 @@ fn number_of(text: &str) -> Option<i64>
 /// An ident.
 fn ident<'t>(text: &'t str) -> Piece<'t>
     requires { class (slice_index text.now 0) ≡ 3 }
-    ensures { IsFirstPiece text.now result }
+    ensures { front_as result ≡ ident_front text.now }
 {
     let bytes = text.as_bytes();
     let start = sign_len(b'@', bytes[0]);
@@ -254,11 +252,8 @@ fn begins_name(byte: u8) -> bool
 
 /// A parenthesis, a join or an operator.
 fn marked<'t>(text: &'t str) -> Piece<'t>
-    requires some { 0 < length text.now }
-    requires class { class (slice_index text.now 0) ≡ 0 }
-    requires slash { slice_index text.now 0 ≢ 47 }
-    requires blank { is_blank (slice_index text.now 0) ≡ false }
-    ensures { IsFirstPiece text.now result }
+    requires { 0 < length text.now }
+    ensures { front_as result ≡ mark_front text.now }
 {
     match mark(text.as_bytes()) {
         Some((kind, len)) => Piece::Token(kind, len),

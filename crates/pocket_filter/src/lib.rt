@@ -11,4 +11,4 @@ mod tokens;
 
 pub use lexer::stray_marks_are_bad_bytes;
 pub use printer::{print, printed_filter_is_read};
-pub use reading::{parse, trees_are_determined};
+pub use reading::{each_text_has_one_verdict, parse, trees_are_determined};

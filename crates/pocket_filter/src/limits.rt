@@ -1,6 +1,7 @@
 // The limits of a filter.
-ghost use Rattle.std.specs.Prelude.{◌≡◌, ◌↔◌, [], ◌∷◌, ◌<◌, ◌+◌, ◌^◌, map, count_by, IsTrue};
-ghost use Rattle.pocket_filter.specs.Faults.{lexemes, open_after, IsTooDeep, is_test};
+ghost use Rattle.std.specs.Prelude.{◌≡◌, [], ◌∷◌, ◌<◌, ◌+◌, ◌^◌, map, count_by};
+ghost use Rattle.pocket_filter.specs.Faults.{lexemes, open_after, is_test};
+ghost use Rattle.pocket_filter.specs.Parsed.{goes_too_deep};
 ghost use Rattle.pocket_filter.specs.Tokens.{lexeme_of, placed};
 
 use crate::tokens::{Token, TokenKind};
@@ -25,7 +26,7 @@ fn open_parentheses(depth: u32, kind: TokenKind<'_>) -> u32
 
 /// Whether more than 16 parentheses are open at once.
 pub fn is_too_deep(tokens: &[Token<'_>]) -> bool
-    ensures { IsTrue result ↔ IsTooDeep (lexemes (map placed tokens.now)) }
+    ensures { result ≡ goes_too_deep 0 (lexemes (map placed tokens.now)) }
 {
     let mut depth = 0;
     for token in tokens {

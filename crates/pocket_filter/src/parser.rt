@@ -1,9 +1,10 @@
 // Tokens to a tree, one step a token. The groups that are open stand on a stack in memory: nothing recurses.
-ghost use Rattle.std.specs.Prelude.{◌≡◌, [], ◌∷◌, Some, None, IfOk, IfErr, map, reverse};
+ghost use Rattle.std.specs.Prelude.{◌≡◌, [], ◌∷◌, IfOk, map, reverse};
+ghost use Rattle.pocket_types.specs.Chains.{or_refuse};
+ghost use Rattle.pocket_types.specs.declared.faults.FilterFault.{FilterFault};
 ghost use Rattle.pocket_filter.specs.Tokens.{lexeme_of, placed};
-ghost use Rattle.pocket_filter.specs.Faults.{lexemes, AreRefused};
-ghost use Rattle.pocket_filter.specs.Grammar.{IsOr};
-ghost use Rattle.pocket_filter.specs.Parsing.{state_of, start, with_and, with_or, with_unit, feed, feed_unit, feed_op, feed_right, feed_join, feed_close, finish, IsRefusal};
+ghost use Rattle.pocket_filter.specs.Parsed.{Gives, GivesAs, tree_from};
+ghost use Rattle.pocket_filter.specs.Parsing.{state_of, start, with_and, with_or, with_unit, feed, feed_unit, feed_op, feed_right, feed_join, feed_close, finish};
 
 use crate::operands::operand_of;
 use crate::tokens::{Token, TokenKind};
@@ -95,10 +96,8 @@ impl Parser {
         group: Group,
         token: &Token<'_>,
     ) -> Result<Parser, FilterFault>
-        ensures ok { IfOk result (λ next.
-            feed_unit (reverse outer.items) group (lexeme_of token.now.kind) ≡ Some (state_of next)) }
-        ensures bad { IfErr result
-            (IsRefusal token.now.at (feed_unit (reverse outer.items) group (lexeme_of token.now.kind))) }
+        ensures { GivesAs state_of result
+            (or_refuse (feed_unit (reverse outer.items) group (lexeme_of token.now.kind)) (FilterFault.Unexpected token.now.at)) }
     {
         if let TokenKind::Open = token.kind {
             outer.push(group)?;
@@ -127,10 +126,8 @@ impl Parser {
         left: Operand,
         token: &Token<'_>,
     ) -> Result<Parser, FilterFault>
-        ensures ok { IfOk result (λ next.
-            feed_op (reverse outer.items) group left (lexeme_of token.now.kind) ≡ Some (state_of next)) }
-        ensures bad { IfErr result
-            (IsRefusal token.now.at (feed_op (reverse outer.items) group left (lexeme_of token.now.kind))) }
+        ensures { GivesAs state_of result
+            (or_refuse (feed_op (reverse outer.items) group left (lexeme_of token.now.kind)) (FilterFault.Unexpected token.now.at)) }
     {
         match token.kind {
             TokenKind::Test { any, op } => Ok(Parser {
@@ -151,10 +148,8 @@ impl Parser {
         op: Op,
         token: &Token<'_>,
     ) -> Result<Parser, FilterFault>
-        ensures ok { IfOk result (λ next.
-            feed_right (reverse outer.items) group left any op (lexeme_of token.now.kind) ≡ Some (state_of next)) }
-        ensures bad { IfErr result
-            (IsRefusal token.now.at (feed_right (reverse outer.items) group left any op (lexeme_of token.now.kind))) }
+        ensures { GivesAs state_of result
+            (or_refuse (feed_right (reverse outer.items) group left any op (lexeme_of token.now.kind)) (FilterFault.Unexpected token.now.at)) }
     {
         match operand_of(alloc, token.kind)? {
             Some(right) => {
@@ -177,9 +172,8 @@ impl Parser {
         tree: Expr,
         at: u32,
     ) -> Result<Parser, FilterFault>
-        ensures ok { IfOk result (λ next.
-            feed_close (reverse outer.items) tree ≡ Some (state_of next)) }
-        ensures bad { IfErr result (IsRefusal at (feed_close (reverse outer.items) tree)) }
+        ensures { GivesAs state_of result
+            (or_refuse (feed_close (reverse outer.items) tree) (FilterFault.Unexpected at)) }
     {
         match outer.pop() {
             Some(group) => Ok(Parser::with_unit(alloc, outer, group, tree)?),
@@ -194,10 +188,8 @@ impl Parser {
         tree: Expr,
         token: &Token<'_>,
     ) -> Result<Parser, FilterFault>
-        ensures ok { IfOk result (λ next.
-            feed_join (reverse outer.items) group tree (lexeme_of token.now.kind) ≡ Some (state_of next)) }
-        ensures bad { IfErr result
-            (IsRefusal token.now.at (feed_join (reverse outer.items) group tree (lexeme_of token.now.kind))) }
+        ensures { GivesAs state_of result
+            (or_refuse (feed_join (reverse outer.items) group tree (lexeme_of token.now.kind)) (FilterFault.Unexpected token.now.at)) }
     {
         let Group { or, and: _ } = group;
         match token.kind {
@@ -231,10 +223,8 @@ impl Parser {
     /// The parser after a token.
     #[tactic(auto, unfolding(crate::specs::Parsing::feed))]
     fn after(self, alloc: Global, token: &Token<'_>) -> Result<Parser, FilterFault>
-        ensures ok { IfOk result (λ next.
-            feed (state_of self) (lexeme_of token.now.kind) ≡ Some (state_of next)) }
-        ensures bad { IfErr result
-            (IsRefusal token.now.at (feed (state_of self) (lexeme_of token.now.kind))) }
+        ensures { GivesAs state_of result
+            (or_refuse (feed (state_of self) (lexeme_of token.now.kind)) (FilterFault.Unexpected token.now.at)) }
     {
         let Parser { outer, group, want } = self;
         match want {
@@ -250,8 +240,7 @@ impl Parser {
     /// The tree, where the tokens end.
     #[tactic(auto, unfolding(crate::specs::Parsing::finish))]
     fn finish(self, alloc: Global, end: u32) -> Result<Expr, FilterFault>
-        ensures ok { IfOk result (λ tree. finish (state_of self) ≡ Some tree) }
-        ensures bad { IfErr result (IsRefusal end (finish (state_of self))) }
+        ensures { Gives result (or_refuse (finish (state_of self)) (FilterFault.Unexpected end)) }
     {
         let Parser { outer, group, want } = self;
         match want {
@@ -267,8 +256,7 @@ impl Parser {
 
 /// The tree of the tokens of a text that ends at a place.
 pub fn tree_of(alloc: Global, tokens: &[Token<'_>], end: u32) -> Result<Expr, FilterFault>
-    ensures ok { IfOk result (λ tree. IsOr (lexemes (map placed tokens.now)) tree) }
-    ensures bad { IfErr result (AreRefused end (map placed tokens.now)) }
+    ensures { Gives result (tree_from start end (map placed tokens.now)) }
 {
     let mut parser = Parser::new(alloc);
     for token in tokens {

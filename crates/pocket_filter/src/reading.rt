@@ -1,9 +1,11 @@
 // From a text to its tree.
-ghost use Rattle.std.specs.Prelude.{◌≡◌, ◌≢◌, IfOk, IfErr, Result, List};
+ghost use Rattle.std.specs.Prelude.{◌≡◌, ◌≢◌, ℕ, IfOk, IfErr, Result, List};
+ghost use Rattle.std.specs.Str.{IsUtf8};
 ghost use Rattle.pocket_types.specs.declared.expr.Expr.{Expr};
 ghost use Rattle.pocket_types.specs.declared.faults.FilterFault.{FilterFault};
 ghost use Rattle.pocket_filter.specs.Filters.{IsFilter, IsFault, IsVerdict, IsAnswer};
 ghost use Rattle.pocket_filter.specs.Grammar.{IsOr};
+ghost use Rattle.pocket_filter.specs.Parsed.{Gives, parsed};
 ghost use Rattle.pocket_filter.specs.Tokens.{Lexeme};
 
 use crate::lexer::tokens;
@@ -21,15 +23,18 @@ pub fn parse(alloc: Global, text: &str) -> Result<Expr, FilterFault>
     ensures ok { IfOk result (λ tree. IsFilter text.now tree) }
     ensures fault { IfErr result (λ fault. fault ≢ FilterFault.Memory → IsFault text.now fault) }
 
+    // The answer is what the text is parsed to, unless memory runs out.
+    ensures value { Gives result (parsed text.now) }
+
     // What the text is, is answered, unless memory runs out: a text is one filter or has one fault.
     ensures only { (verdict : Result Expr FilterFault) → IsVerdict text.now verdict → IsAnswer verdict result }
 {
     read(alloc, text)
 }
 
+#[tactic(auto, unfolding(crate::specs::Parsed::parsed))]
 fn read(alloc: Global, text: &str) -> Result<Expr, FilterFault>
-    ensures ok { IfOk result (λ tree. IsFilter text.now tree) }
-    ensures fault { IfErr result (λ fault. fault ≢ FilterFault.Memory → IsFault text.now fault) }
+    ensures { Gives result (parsed text.now) }
 {
     if text.len() > MAX_BYTES {
         return Err(FilterFault::TooLong);
@@ -44,6 +49,12 @@ fn read(alloc: Global, text: &str) -> Result<Expr, FilterFault>
     }
     Ok(tree)
 }
+
+/// Each text has one verdict, that which it is parsed to: it is a filter with this tree, or has this fault.
+pub fn each_text_has_one_verdict()
+    ensures has { (text : List ℕ) → IsUtf8 text → IsVerdict text (parsed text) }
+    ensures one { (text : List ℕ) (verdict : Result Expr FilterFault) → IsUtf8 text → IsVerdict text verdict → parsed text ≡ verdict }
+{}
 
 /// Trees are determined: tokens that are a filter are it with one tree alone.
 pub fn trees_are_determined()

@@ -1,4 +1,5 @@
 pub mod Causes
+pub mod Chains
 pub mod Inductions
 pub mod Json
 pub mod Kinds

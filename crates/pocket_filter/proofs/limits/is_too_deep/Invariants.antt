@@ -1,11 +1,11 @@
-use Rattle.std.proofs.Common.{◌≡◌, ℕ, ◌≤◌, map, take}
-use Rattle.pocket_filter.specs.Faults.{lexemes, open_after}
-use Rattle.pocket_filter.specs.Tokens.{placed}
+use Rattle.std.proofs.Common.{◌≡◌, ◌≤◌, drop}
+use Rattle.pocket_filter.specs.Parsed.{goes_too_deep}
+use Rattle.pocket_filter.proofs.Depths.{all}
 use Rattle.pocket_filter.proofs.limits.is_too_deep.Given as goal
 
--- the parentheses open so far, and no prefix up to here is too deep
+-- what is open so far isn't too deep, and the rest tells whether the whole is
 abbrev pub invariant-loop-token : goal.invariant-loop-token
 invariant-loop-token l = record {
-  depth_is : l.depth ≡ open_after 0 (take l.token-index (lexemes (map placed l.tokens)));
-  shallow : (n : ℕ) → n ≤ l.token-index → open_after 0 (take n (lexemes (map placed l.tokens))) ≤ 16;
+  within : l.depth ≤ 16;
+  rest : goes_too_deep 0 (all l.tokens) ≡ goes_too_deep l.depth (all (drop l.token-index l.tokens));
 }
