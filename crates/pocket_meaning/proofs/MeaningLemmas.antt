@@ -11,7 +11,7 @@ use Rattle.pocket_types.specs.declared.resolved.Prefix.{Prefix}
 use Rattle.pocket_meaning.specs.Members.{Member}
 use Rattle.pocket_meaning.specs.Sights.{Sight}
 use Rattle.pocket_meaning.specs.Choices.{Choice, choices_from, related, or_nobody}
-use Rattle.pocket_types.proofs.PathLemmas.{take_one_more}
+use Rattle.pocket_meaning.proofs.ListLemmas.{take_one_more}
 
 pub list_any-flat_map : {X Y : Type 0} (p : Y → Bool) (f : X → List Y) (xs : List X) → list_any p (flat_map f xs) ≡ list_any (λ x. list_any p (f x)) xs
 list_any-flat_map p f [] = refl
