@@ -14,8 +14,8 @@ use std::alloc::{AllocError, Global};
 /// What stands in a group left of the unit that comes next: what `||` joins it to, and what `&&` joins it to.
 #[derive(Drop)]
 struct Group {
-    or: Option<Expr>,
-    and: Option<Expr>,
+    or: Option<Boxed<Expr>>,
+    and: Option<Boxed<Expr>>,
 }
 
 /// What may come next.
@@ -28,7 +28,7 @@ enum Want {
     /// Its right operand.
     Right { left: Operand, any: bool, op: Op },
     /// A join, a closing parenthesis or the end.
-    Join { tree: Expr },
+    Join { tree: Boxed<Expr> },
 }
 
 /// A parser between two tokens.
@@ -40,21 +40,29 @@ struct Parser {
     want: Want,
 }
 
-fn and_joined(alloc: Global, left: Option<Expr>, unit: Expr) -> Result<Expr, AllocError>
+fn and_joined(
+    alloc: Global,
+    left: Option<Boxed<Expr>>,
+    unit: Boxed<Expr>,
+) -> Result<Boxed<Expr>, AllocError>
     ensures { IfOk result (λ tree. tree ≡ with_and left unit) }
 {
     match left {
         None => Ok(unit),
-        Some(left) => Ok(Expr::And(Boxed::new(alloc, left)?, Boxed::new(alloc, unit)?)),
+        Some(left) => Boxed::new(alloc, Expr::And(left, unit)),
     }
 }
 
-fn or_joined(alloc: Global, left: Option<Expr>, tree: Expr) -> Result<Expr, AllocError>
+fn or_joined(
+    alloc: Global,
+    left: Option<Boxed<Expr>>,
+    tree: Boxed<Expr>,
+) -> Result<Boxed<Expr>, AllocError>
     ensures { IfOk result (λ joined. joined ≡ with_or left tree) }
 {
     match left {
         None => Ok(tree),
-        Some(left) => Ok(Expr::Or(Boxed::new(alloc, left)?, Boxed::new(alloc, tree)?)),
+        Some(left) => Boxed::new(alloc, Expr::Or(left, tree)),
     }
 }
 
@@ -77,7 +85,7 @@ impl Parser {
         alloc: Global,
         outer: Vec<Group>,
         group: Group,
-        unit: Expr,
+        unit: Boxed<Expr>,
     ) -> Result<Parser, AllocError>
         ensures { IfOk result (λ next. state_of next ≡ with_unit (reverse outer.items) group unit) }
     {
@@ -96,8 +104,7 @@ impl Parser {
         group: Group,
         token: &Token<'_>,
     ) -> Result<Parser, FilterFault>
-        ensures { GivesAs state_of result
-            (or_refuse (feed_unit (reverse outer.items) group (lexeme_of token.now.kind)) (FilterFault.Unexpected token.now.at)) }
+        ensures { GivesAs state_of result (or_refuse (feed_unit (reverse outer.items) group (lexeme_of token.now.kind)) (FilterFault.Unexpected token.now.at)) }
     {
         if let TokenKind::Open = token.kind {
             outer.push(group)?;
@@ -126,8 +133,7 @@ impl Parser {
         left: Operand,
         token: &Token<'_>,
     ) -> Result<Parser, FilterFault>
-        ensures { GivesAs state_of result
-            (or_refuse (feed_op (reverse outer.items) group left (lexeme_of token.now.kind)) (FilterFault.Unexpected token.now.at)) }
+        ensures { GivesAs state_of result (or_refuse (feed_op (reverse outer.items) group left (lexeme_of token.now.kind)) (FilterFault.Unexpected token.now.at)) }
     {
         match token.kind {
             TokenKind::Test { any, op } => Ok(Parser {
@@ -148,17 +154,17 @@ impl Parser {
         op: Op,
         token: &Token<'_>,
     ) -> Result<Parser, FilterFault>
-        ensures { GivesAs state_of result
-            (or_refuse (feed_right (reverse outer.items) group left any op (lexeme_of token.now.kind)) (FilterFault.Unexpected token.now.at)) }
+        ensures { GivesAs state_of result (or_refuse (feed_right (reverse outer.items) group left any op (lexeme_of token.now.kind)) (FilterFault.Unexpected token.now.at)) }
     {
         match operand_of(alloc, token.kind)? {
             Some(right) => {
-                let unit = Expr::Test {
+                let test = Expr::Test {
                     left,
                     any,
                     op,
                     right,
                 };
+                let unit = Boxed::new(alloc, test)?;
                 Ok(Parser::with_unit(alloc, outer, group, unit)?)
             }
             None => Err(FilterFault::Unexpected(token.at)),
@@ -169,11 +175,10 @@ impl Parser {
     fn after_close(
         alloc: Global,
         mut outer: Vec<Group>,
-        tree: Expr,
+        tree: Boxed<Expr>,
         at: u32,
     ) -> Result<Parser, FilterFault>
-        ensures { GivesAs state_of result
-            (or_refuse (feed_close (reverse outer.items) tree) (FilterFault.Unexpected at)) }
+        ensures { GivesAs state_of result (or_refuse (feed_close (reverse outer.items) tree) (FilterFault.Unexpected at)) }
     {
         match outer.pop() {
             Some(group) => Ok(Parser::with_unit(alloc, outer, group, tree)?),
@@ -185,11 +190,10 @@ impl Parser {
         alloc: Global,
         outer: Vec<Group>,
         group: Group,
-        tree: Expr,
+        tree: Boxed<Expr>,
         token: &Token<'_>,
     ) -> Result<Parser, FilterFault>
-        ensures { GivesAs state_of result
-            (or_refuse (feed_join (reverse outer.items) group tree (lexeme_of token.now.kind)) (FilterFault.Unexpected token.now.at)) }
+        ensures { GivesAs state_of result (or_refuse (feed_join (reverse outer.items) group tree (lexeme_of token.now.kind)) (FilterFault.Unexpected token.now.at)) }
     {
         let Group { or, and: _ } = group;
         match token.kind {
@@ -223,8 +227,7 @@ impl Parser {
     /// The parser after a token.
     #[tactic(auto, unfolding(crate::specs::Parsing::feed))]
     fn after(self, alloc: Global, token: &Token<'_>) -> Result<Parser, FilterFault>
-        ensures { GivesAs state_of result
-            (or_refuse (feed (state_of self) (lexeme_of token.now.kind)) (FilterFault.Unexpected token.now.at)) }
+        ensures { GivesAs state_of result (or_refuse (feed (state_of self) (lexeme_of token.now.kind)) (FilterFault.Unexpected token.now.at)) }
     {
         let Parser { outer, group, want } = self;
         match want {
@@ -245,7 +248,7 @@ impl Parser {
         let Parser { outer, group, want } = self;
         match want {
             Want::Join { tree } => if outer.is_empty() {
-                Ok(or_joined(alloc, group.or, tree)?)
+                Ok(or_joined(alloc, group.or, tree)?.into_inner())
             } else {
                 Err(FilterFault::Unexpected(end))
             },

@@ -6,7 +6,7 @@ use Rattle.pocket_types.specs.declared.json.Jv.TheFolds.{fold-roll-Jv, fold-roll
 use Rattle.pocket_types.specs.declared.json.Jv.TheOpen as jv
 use Rattle.pocket_types.specs.declared.json.Jv.TheViews.{roll-Jv}
 use Rattle.pocket_types.specs.declared.json.Member.{fold-Member}
-use Rattle.pocket_types.specs.Profile.{rise, rising_step, rising_member, keys_rise, small_step, small_member, numbers_small, greatest, levels_step, levels_member, levels}
+use Rattle.pocket_types.specs.Profile.{rise, rising_step, rising_member, keys_rise, small_step, small_member, numbers_small, greatest, levels_step, levels_member, levels, utf8_step, utf8_member, texts_utf8, entry_utf8}
 use Rattle.pocket_types.specs.Maps.{member_of, map_jv}
 
 abbrev pub Entries : Type 0
@@ -23,6 +23,10 @@ rising_members (e ∷ es) = rw (fold-roll-Member Bool (List ℕ × Bool) rising_
 small_members : (es : Entries) → map (fold-Member Bool Bool small_step small_member) (map member_of es) ≡ map (λ e. numbers_small e.1) es
 small_members [] = refl
 small_members (e ∷ es) = rw (fold-roll-Member Bool Bool small_step small_member (record { key = e.0; value = e.1 }), small_members es) refl
+
+utf8_members : (es : Entries) → map (fold-Member Bool Bool utf8_step utf8_member) (map member_of es) ≡ map entry_utf8 es
+utf8_members [] = refl
+utf8_members (e ∷ es) = rw (fold-roll-Member Bool Bool utf8_step utf8_member (record { key = e.0; value = e.1 }), utf8_members es) refl
 
 levels_members : (es : Entries) → map (fold-Member ℕ ℕ levels_step levels_member) (map member_of es) ≡ map (λ e. levels e.1) es
 levels_members [] = refl
@@ -46,6 +50,9 @@ rising_list vs = fold-roll-Jv Bool (List ℕ × Bool) rising_step rising_member 
 pub small_list : (vs : List Jv) → numbers_small (roll-Jv (jv.List vs)) ≡ list_all numbers_small vs
 small_list vs = fold-roll-Jv Bool Bool small_step small_member (jv.List vs) ∙ all_mapped numbers_small vs
 
+pub utf8_list : (vs : List Jv) → texts_utf8 (roll-Jv (jv.List vs)) ≡ list_all texts_utf8 vs
+utf8_list vs = fold-roll-Jv Bool Bool utf8_step utf8_member (jv.List vs) ∙ all_mapped texts_utf8 vs
+
 pub levels_list : (vs : List Jv) → levels (roll-Jv (jv.List vs)) ≡ suc (greatest (map levels vs))
 levels_list vs = fold-roll-Jv ℕ ℕ levels_step levels_member (jv.List vs)
 
@@ -56,6 +63,9 @@ rising_map es =
 
 pub small_map : (es : Entries) → numbers_small (map_jv es) ≡ list_all (λ e. numbers_small e.1) es
 small_map es = fold-roll-Jv Bool Bool small_step small_member (jv.Map (map member_of es)) ∙ ap (list_all (λ b. b)) (small_members es) ∙ all_mapped (λ e. numbers_small e.1) es
+
+pub utf8_map : (es : Entries) → texts_utf8 (map_jv es) ≡ list_all entry_utf8 es
+utf8_map es = fold-roll-Jv Bool Bool utf8_step utf8_member (jv.Map (map member_of es)) ∙ ap (list_all (λ b. b)) (utf8_members es) ∙ all_mapped entry_utf8 es
 
 pub levels_map : (es : Entries) → levels (map_jv es) ≡ suc (greatest (map (λ e. levels e.1) es))
 levels_map es = fold-roll-Jv ℕ ℕ levels_step levels_member (jv.Map (map member_of es)) ∙ ap (λ ns. suc (greatest ns)) (levels_members es)

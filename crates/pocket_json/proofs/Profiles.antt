@@ -1,7 +1,9 @@
 -- A tree that was read has rising keys, small numbers and at most 32 levels.
 use Rattle.std.proofs.Common.{◌≡◌, ◌≤◌, ◌^◌, ◌&&◌, ℕ, zero, suc, max, ℤ, pos, neg_ℤ, List, [], ◌∷◌, Bool, true, false, map, drop, nat_lt, if◌then◌else◌, Option, Some, None, option_map, option_and_then, refl, sym, ap, ◌∙◌, arith, subst, slice_index, ◌==◌}
 use Rattle.std.specs.Bool.{⊤}
+use Rattle.std.specs.Prelude.{IsTrue}
 use Rattle.std.specs.List.{list_all}
+use Rattle.std.specs.Str.{is_utf8}
 use Rattle.std.specs.Ordering.{nat_cmp, match_ordering}
 use Rattle.std.specs.Cmp.Lexicographic.{slice_cmp}
 use Rattle.std.specs.declared.cmp.Ordering.{Ordering}
@@ -20,7 +22,7 @@ use Rattle.pocket_types.specs.declared.json.Jv.{Jv}
 use Rattle.pocket_types.specs.declared.json.Jv.TheOpen as jv
 use Rattle.pocket_types.specs.declared.json.Jv.TheViews.{roll-Jv}
 use Rattle.pocket_types.specs.declared.json.Jv.TheFolds.{fold-roll-Jv}
-use Rattle.pocket_types.specs.Profile.{rise, rise_from, rising_step, rising_member, keys_rise, size_of, small_step, small_member, numbers_small, greatest, levels_step, levels_member, levels, IsProfiled}
+use Rattle.pocket_types.specs.Profile.{rise, rise_from, rising_step, rising_member, keys_rise, size_of, small_step, small_member, numbers_small, greatest, levels_step, levels_member, levels, texts_utf8, entry_utf8, IsProfiled}
 use Rattle.pocket_types.specs.Maps.{map_jv, put}
 use Rattle.pocket_json.specs.Reading.{from_zero, below_zero, whole_of, tree_of, trees_of, entries_of, document, read}
 use Rattle.pocket_json.proofs.Layers.{Entries, keys, rising_list, small_list, levels_list, rising_map, small_map, levels_map}
@@ -144,6 +146,21 @@ put_fine d key v (e ∷ es) f g = by (slice_cmp nat_cmp key e.0) (put_fine d key
     by Equal more = (f, g.1)
     by Greater more = (g.0, more)
 
+-- an entry of UTF-8 more
+pub put_utf8 : (key : List ℕ) (v : Jv) (es : Entries) → is_utf8 key ≡ true → texts_utf8 v ≡ true → list_all entry_utf8 es ≡ true → list_all entry_utf8 (put key v es) ≡ true
+unfolding put
+put_utf8 key v [] k t h = and_from _ _ (and_from _ _ k t) refl
+put_utf8 key v (e ∷ es) k t h =
+    let parts = and_parts (entry_utf8 e) (list_all entry_utf8 es) h in
+    let own = and_parts (is_utf8 e.0) (texts_utf8 e.1) parts.0 in
+    by (slice_cmp nat_cmp key e.0) own.0 parts (put_utf8 key v es k t parts.1)
+  where
+    by : (o : Ordering) → is_utf8 e.0 ≡ true → (entry_utf8 e ≡ true) × (list_all entry_utf8 es ≡ true) → list_all entry_utf8 (put key v es) ≡ true
+        → list_all entry_utf8 (match_ordering o ((key, v) ∷ e ∷ es) ((e.0, v) ∷ es) (e ∷ put key v es)) ≡ true
+    by Less own parts more = and_from _ _ (and_from _ _ k t) (and_from _ _ parts.0 parts.1)
+    by Equal own parts more = and_from _ _ (and_from _ _ own t) parts.1
+    by Greater own parts more = and_from _ _ parts.0 more
+
 mutual
   tree_fine : (j : json.Json) (v : Jv) → tree_of j ≡ Some v → Fine (depth j) v
   tree_fine json.null v h =
@@ -196,8 +213,8 @@ document_depth text j h =
     let found = and_then_some (λ p. json.if_last p.0 p.1) (json.value 32 (tokens text)) j h in
     subst (λ k. depth k ≤ 32) (last_is found.0.0 j found.0.1 found.2) (value-depth 32 (tokens text) found.0.1 found.0.0 found.1)
 
-pub is_profiled : (text : List ℕ) (tree : Jv) → read text ≡ Some tree → IsProfiled tree
-is_profiled text tree h =
+pub is_profiled : (text : List ℕ) (tree : Jv) → read text ≡ Some tree → IsTrue (texts_utf8 tree) → IsProfiled tree
+is_profiled text tree h texts =
     let found = and_then_some tree_of (document text) tree h in
     let fine = tree_fine found.0 tree found.2 in
-    record { keys = fine.0; numbers = fine.1; depth = omega (arith, fine.2, document_depth text found.0 found.1) }
+    record { keys = fine.0; numbers = fine.1; texts = texts; depth = omega (arith, fine.2, document_depth text found.0 found.1) }

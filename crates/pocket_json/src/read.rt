@@ -1,8 +1,8 @@
-ghost use Rattle.std.specs.Prelude.{◌≡◌, Some, None, Err, IfOk};
+ghost use Rattle.std.specs.Prelude.{◌≡◌, Some, None, Err, IfOk, IsTrue};
 ghost use Rattle.json.specs.Value.{value_view};
 ghost use Rattle.pocket_types.specs.Json.{printed};
 ghost use Rattle.pocket_types.specs.declared.json.Jv.{Jv};
-ghost use Rattle.pocket_types.specs.Profile.{IsProfiled};
+ghost use Rattle.pocket_types.specs.Profile.{IsProfiled, texts_utf8};
 ghost use Rattle.pocket_json.specs.Reading.{document, read as read_of, IsJson};
 
 use crate::convert::tree;
@@ -36,6 +36,7 @@ pub fn printed_tree_is_read(tree: &Jv, text: &str)
 
 fn read_text(alloc: Global, text: &str) -> Result<Jv, JsonFault>
     ensures ok { IfOk result (λ tree. read_of text.now ≡ Some tree) }
+    ensures texts { IfOk result (λ tree. IsTrue (texts_utf8 tree)) }
     ensures bad { result ≡ Err JsonFault.BadJson → read_of text.now ≡ None }
 {
     let mut scratch = Scratch::new(alloc);

@@ -6,4 +6,5 @@ pub mod Picks
 pub mod Orders
 pub mod CarriedOver
 pub mod Somebody
+pub mod Standing
 pub mod Sights

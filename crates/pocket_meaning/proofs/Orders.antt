@@ -1,7 +1,7 @@
 -- Starts of choices, and orders of prefixes.
-use Rattle.std.proofs.Common.{◌≡◌, ◌⊎◌, inl, inr, List, [], ◌∷◌, ◌++◌, refl, sym, ap, subst, ◌∙◌, append_assoc, Bool, true, false, cond, ◌||◌}
-use Rattle.std.specs.Prelude.{not, filter}
-use Rattle.std.specs.List.{AllByRecursion, list_any, list_all}
+use Rattle.std.proofs.Common.{◌≡◌, inl, inr, List, [], ◌∷◌, ◌++◌, refl, sym, ap, subst, ◌∙◌, append_assoc, Bool, true, false, cond}
+use Rattle.std.specs.Prelude.{not}
+use Rattle.std.specs.List.{list_any, list_all}
 use Rattle.std.proofs.lemmas.List.{append-nil}
 use Rattle.std.proofs.lemmas.Bool.{or_cases, or_left, or_right}
 use Rattle.std.proofs.lemmas.List.Folds.{list_any-append}
@@ -17,7 +17,7 @@ use Rattle.pocket_meaning.specs.Prefixes.{any_prefixes}
 use Rattle.pocket_meaning.specs.Choices.{Choice, chosen, parent, related, or_nobody, choices_from}
 use Rattle.pocket_meaning.specs.Choosing.{IsIn, IsChoice, bare, chosen_prefixes, among, HasAll, AreParentsFirst, rest_of, Agrees, IsStart, IsShared}
 use Rattle.pocket_meaning.specs.Meaning.{test_under, test_always, true_under, true_in}
-use Rattle.pocket_meaning.proofs.Picks.{prefix_is, has_firsts, among_left, flat_map_in, chosen_new, true_or_false, same_self, among_one, choice_from_list, some_from, some_to, each_from, each_to, nothing_start, holds_from_list, list_from_holds, always_from, always_to}
+use Rattle.pocket_meaning.proofs.Picks.{prefix_is, has_firsts, among_left, flat_map_in, chosen_new, true_or_false, among_one, choice_from_list, some_from, some_to, each_from, each_to, nothing_start, holds_from_list, list_from_holds, always_from, always_to}
 
 agrees_more : (c : Prefix → Member) (d : Choice) (x : Prefix × Member) → Agrees c d → c x.0 ≡ x.1 → Agrees c (d ++ x ∷ [])
 agrees_more c [] x a h = (h, tt)

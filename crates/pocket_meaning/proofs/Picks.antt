@@ -20,7 +20,7 @@ use Rattle.pocket_types.specs.Paths.{same_root, same_step, same_prefix, begun, w
 use Rattle.pocket_types.specs.Inductions.{resolved_induction}
 use Rattle.pocket_meaning.specs.Prefixes.{any_prefixes}
 use Rattle.pocket_meaning.specs.Sights.{Sight, value_of}
-use Rattle.pocket_meaning.specs.Choices.{Choice, chosen, parent, last_step, seen_from, related, or_nobody, choices, choices_from}
+use Rattle.pocket_meaning.specs.Choices.{Choice, chosen, parent, last_step, seen_from, related, or_nobody, choices_from}
 use Rattle.pocket_meaning.specs.Choosing.{IsIn, IsChoice, Holds, bare, then_step, chosen_prefixes, among, HasAll, AreParentsFirst, Agrees, IsStart}
 use Rattle.pocket_meaning.specs.Meaning.{test_under, test_always, true_under, true_in}
 use Rattle.pocket_meaning.specs.Values.{item_value}

@@ -54,7 +54,8 @@ PlainIsEach = (s : Sight) (l : Leaf) (o : Op) (r : Leaf) → IsTrue (test_always
 abbrev pub SameSightSameTruth : Type 0
 SameSightSameTruth =
     (s t : Sight) → s.ask ≡ t.ask → ((n : Name) → s.sent n ≡ t.sent n) → ((r : Root) → s.roots r ≡ t.roots r)
-    → ((p : Step) (m : Member) → s.steps p m ≡ t.steps p m) → ((m : Member) (n : Name) (o : Modifier) → s.values m n o ≡ t.values m n o) → (f : Resolved) → true_in s f ≡ true_in t f
+    → ((p : Step) (m : Member) → s.steps p m ≡ t.steps p m) → ((m : Member) (n : Name) (o : Modifier) → s.values m n o ≡ t.values m n o)
+    → (f : Resolved) → true_in s f ≡ true_in t f
 
 -- a filter is as true in a sight as in one whose members are carried over
 abbrev pub TruthIsCarried : Type 0
@@ -64,26 +65,31 @@ TruthIsCarried = (s t : Sight) (carry : Member → Member) (fits : Prefix → Me
 -- with: one of them makes a filter true exactly where one of all prefixes does that agrees with the start, and so for 'all'.
 pub record AnyOrderServes : Type 0 where
   pub some :
-      (s : Sight) (d : Choice) (ps : List Prefix) (f : Resolved) → AreParentsFirst [] (chosen_prefixes d ++ ps) → IsStart s d → HasAll (chosen_prefixes d ++ ps) (any_prefixes f)
+      (s : Sight) (d : Choice) (ps : List Prefix) (f : Resolved)
+      → AreParentsFirst [] (chosen_prefixes d ++ ps) → IsStart s d → HasAll (chosen_prefixes d ++ ps) (any_prefixes f)
       → IsTrue (list_any (λ e. true_under s (chosen e) f) (choices_from s ps d)) ↔ ((c : Prefix → Member) × IsChoice s c × Agrees c d × IsTrue (true_under s c f))
   pub each :
-      (s : Sight) (d : Choice) (ps : List Prefix) (l : Leaf) (o : Op) (r : Leaf) → AreParentsFirst [] (chosen_prefixes d ++ ps) → IsStart s d → HasAll (chosen_prefixes d ++ ps) (prefixes_of l ++ prefixes_of r)
+      (s : Sight) (d : Choice) (ps : List Prefix) (l : Leaf) (o : Op) (r : Leaf)
+      → AreParentsFirst [] (chosen_prefixes d ++ ps) → IsStart s d → HasAll (chosen_prefixes d ++ ps) (prefixes_of l ++ prefixes_of r)
       → IsTrue (list_all (λ e. test_under s (chosen e) l o r) (choices_from s ps d)) ↔ ((c : Prefix → Member) → IsChoice s c → Agrees c d → IsTrue (test_under s c l o r))
 
 -- Starts that every choice of all prefixes agrees with: what is judged from there is the truth itself.
 pub record SharedStartServes : Type 0 where
   pub some :
-      (s : Sight) (d : Choice) (ps : List Prefix) (f : Resolved) → AreParentsFirst [] (chosen_prefixes d ++ ps) → IsShared s d → HasAll (chosen_prefixes d ++ ps) (any_prefixes f)
+      (s : Sight) (d : Choice) (ps : List Prefix) (f : Resolved)
+      → AreParentsFirst [] (chosen_prefixes d ++ ps) → IsShared s d → HasAll (chosen_prefixes d ++ ps) (any_prefixes f)
       → list_any (λ e. true_under s (chosen e) f) (choices_from s ps d) ≡ true_in s f
   pub each :
-      (s : Sight) (d : Choice) (ps : List Prefix) (l : Leaf) (o : Op) (r : Leaf) → AreParentsFirst [] (chosen_prefixes d ++ ps) → IsShared s d → HasAll (chosen_prefixes d ++ ps) (prefixes_of l ++ prefixes_of r)
+      (s : Sight) (d : Choice) (ps : List Prefix) (l : Leaf) (o : Op) (r : Leaf)
+      → AreParentsFirst [] (chosen_prefixes d ++ ps) → IsShared s d → HasAll (chosen_prefixes d ++ ps) (prefixes_of l ++ prefixes_of r)
       → list_all (λ e. test_under s (chosen e) l o r) (choices_from s ps d) ≡ test_always s l o r
 
 -- What is a start: nothing, a start with one more member of the next list, and what every choice agrees with. A root with one member is shared.
 pub record StartsAreMade : Type 0 where
   pub nothing : (s : Sight) → IsStart s []
   pub one_more :
-      (s : Sight) (d : Choice) (p : Prefix) (m : Member) → AreParentsFirst [] (chosen_prefixes d ++ p ∷ []) → IsStart s d → IsFalse (among (chosen_prefixes d) p) → IsIn m (or_nobody (related s d p))
+      (s : Sight) (d : Choice) (p : Prefix) (m : Member)
+      → AreParentsFirst [] (chosen_prefixes d ++ p ∷ []) → IsStart s d → IsFalse (among (chosen_prefixes d) p) → IsIn m (or_nobody (related s d p))
       → IsStart s (d ++ (p, m) ∷ [])
   pub shared : (s : Sight) (d : Choice) → IsShared s d → IsStart s d
   pub one_member : (s : Sight) (c : Prefix → Member) (r : Root) (m : Member) → IsChoice s c → s.roots r ≡ m ∷ [] → c (bare r) ≡ m
@@ -92,7 +98,8 @@ pub record StartsAreMade : Type 0 where
 pub record OrdersAreMade : Type 0 where
   pub parents : (ps : List Prefix) → AreParentsFirst [] (with_parents ps) × HasAll (with_parents ps) ps
   pub rest :
-      (start ps : List Prefix) → AreParentsFirst [] start → AreParentsFirst [] ps → AreParentsFirst [] (start ++ rest_of start ps) × ((q : Prefix) → IsTrue (among ps q) → IsTrue (among (start ++ rest_of start ps) q))
+      (start ps : List Prefix) → AreParentsFirst [] start → AreParentsFirst [] ps
+      → AreParentsFirst [] (start ++ rest_of start ps) × ((q : Prefix) → IsTrue (among ps q) → IsTrue (among (start ++ rest_of start ps) q))
 
 -- a part of a filter, all of whose any-match prefixes a choice has
 abbrev pub IsChosenIn : Choice → Resolved → Type 0

@@ -8,4 +8,5 @@ pub mod Meaning
 pub mod Seen
 pub mod Choosing
 pub mod Carrying
+pub mod Standing
 pub mod Laws

@@ -1,5 +1,6 @@
 // What follows from the definitions, for those who compute truth in other ways. Each law is a function without a body.
 ghost use Rattle.pocket_meaning.specs.Laws.{ConditionsShare, EmptyListIsNobody, HasOneChoice, ListIsRelation, PlainIsEach, AnyOrderServes, SharedStartServes, StartsAreMade, OrdersAreMade, SameSightSameTruth, TruthIsCarried, ChosenPartIsSettled};
+ghost use Rattle.pocket_meaning.specs.Standing.{PathsLeadToRecords};
 
 /// Any-match comparisons of one filter share the choice on each path: two of them hold together exactly where one choice makes
 /// both true.
@@ -10,6 +11,12 @@ pub fn conditions_share_a_choice()
 /// A prefix with an empty related list has chosen nobody, and one that has chosen nobody in a world has an empty list.
 pub fn an_empty_list_is_nobody()
     ensures { EmptyListIsNobody }
+{}
+
+/// What a path has chosen in a world is nobody, or stands where the path leads: the record that is judged, or one of the world. So a
+/// path whose steps lead from collection to collection never comes to a member of another sort.
+pub fn paths_lead_to_records()
+    ensures { PathsLeadToRecords }
 {}
 
 /// A filter without any-match prefixes has exactly one choice.

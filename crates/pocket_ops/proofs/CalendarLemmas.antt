@@ -6,7 +6,7 @@ use Rattle.jiff_core.specs.Calendar.{IsCivilDate, days_from_civil, day_count}
 use Rattle.jiff_core.proofs.CalendarLemmas.{days_from_civil-day_count, day_count-day_of_year, day_count-lt_year, day_count-lt_month, day_count-later_year, day_count-day, days_in_month_bounds}
 use Rattle.jiff_core.proofs.MarchLemmas.{day_count-early}
 use Rattle.jiff_core.proofs.SignedLemmas.{signed_arith}
-use Rattle.pocket_ops.specs.Calendar.{begun, year_of, day_of, time_of, civil_of, civil_millis}
+use Rattle.pocket_ops.specs.Calendar.{count_begun, year_of, day_of, time_of, civil_of, civil_millis}
 
 less_by : (a b : ℤ) (t : Bool) → int_lt a b ≡ t → a <ℤ b → int_lt a b ≡ true
 less_by a b true e h = e
@@ -22,21 +22,21 @@ not_less_by a b false e h = e
 pub not_less : (a b : ℤ) → b ≤ℤ a → int_lt a b ≡ false
 not_less a b h = not_less_by a b (int_lt a b) refl h
 
-begun-step : (first : ℕ → ℤ) (day : ℤ) (own n : ℕ) → ((k : ℕ) → 1 ≤ k → k ≤ own → first k ≤ℤ day) → ((k : ℕ) → own < k → k ≤ suc n → day <ℤ first k) → (suc n < suc own) ⊎ (suc own ≤ suc n) → begun first day n ≡ min n own → begun first day (suc n) ≡ min (suc n) own
-unfolding begun
-begun-step first day own n here later (inl lt) known =
+count_begun-step : (first : ℕ → ℤ) (day : ℤ) (own n : ℕ) → ((k : ℕ) → 1 ≤ k → k ≤ own → first k ≤ℤ day) → ((k : ℕ) → own < k → k ≤ suc n → day <ℤ first k) → (suc n < suc own) ⊎ (suc own ≤ suc n) → count_begun first day n ≡ min n own → count_begun first day (suc n) ≡ min (suc n) own
+unfolding count_begun
+count_begun-step first day own n here later (inl lt) known =
     let same : int_lt day (first (suc n)) ≡ false = not_less _ _ (here (suc n) (omega arith) (omega arith)) in
     rw (same, known) (omega (arith, lt))
-begun-step first day own n here later (inr le) known =
+count_begun-step first day own n here later (inr le) known =
     let same : int_lt day (first (suc n)) ≡ true = is_less _ _ (later (suc n) (omega arith) (omega arith)) in
     rw (same, known) (omega (arith, le))
 
 -- the spans that have begun on a day are those up to its own
-pub begun-is : (first : ℕ → ℤ) (day : ℤ) (own n : ℕ) → ((k : ℕ) → 1 ≤ k → k ≤ own → first k ≤ℤ day) → ((k : ℕ) → own < k → k ≤ n → day <ℤ first k) → begun first day n ≡ min n own
-unfolding begun
-begun-is first day own zero here later = omega arith
-begun-is first day own (suc n) here later =
-    begun-step first day own n here later (cases_lt (suc n) (suc own)) (begun-is first day own n here (λ k above up. later k above (omega arith)))
+pub count_begun-is : (first : ℕ → ℤ) (day : ℤ) (own n : ℕ) → ((k : ℕ) → 1 ≤ k → k ≤ own → first k ≤ℤ day) → ((k : ℕ) → own < k → k ≤ n → day <ℤ first k) → count_begun first day n ≡ min n own
+unfolding count_begun
+count_begun-is first day own zero here later = omega arith
+count_begun-is first day own (suc n) here later =
+    count_begun-step first day own n here later (cases_lt (suc n) (suc own)) (count_begun-is first day own n here (λ k above up. later k above (omega arith)))
 
 -- a day comes after the first days of the years up to its own
 year_here_at : (k y m d : ℕ) → IsCivilDate (pos y) m d → k ≤ y → (k ≡ y) ⊎ ((k < y) ⊎ (y < k)) → days_from_civil (pos k) 1 1 ≤ℤ days_from_civil (pos y) m d
@@ -56,7 +56,7 @@ year_later k y m d h lt =
 
 pub year_of-is : (y m d : ℕ) → y ≤ 9999 → IsCivilDate (pos y) m d → year_of (days_from_civil (pos y) m d) ≡ y
 year_of-is y m d h date =
-    let count = begun-is (λ year. days_from_civil (pos year) 1 1) (days_from_civil (pos y) m d) y 9999 (λ k low high. year_here k y m d date high) (λ k above high. year_later k y m d date above) in
+    let count = count_begun-is (λ year. days_from_civil (pos year) 1 1) (days_from_civil (pos y) m d) y 9999 (λ k low high. year_here k y m d date high) (λ k above high. year_later k y m d date above) in
     omega (arith, count)
 
 month_here_at : (k y m d : ℕ) → IsCivilDate (pos y) m d → 1 ≤ k → k ≤ m → (k ≡ m) ⊎ ((k < m) ⊎ (m < k)) → days_from_civil (pos y) k 1 ≤ℤ days_from_civil (pos y) m d
@@ -74,9 +74,9 @@ month_later : (k y m d : ℕ) → IsCivilDate (pos y) m d → m < k → days_fro
 month_later k y m d h lt =
     omega (arith, signed_arith, days_from_civil-day_count (pos y) k 1, days_from_civil-day_count (pos y) m d, day_count-lt_month (pos y) m d k 1 h (omega arith) lt)
 
-months_begun-is : (y m d : ℕ) → IsCivilDate (pos y) m d → begun (λ month. days_from_civil (pos y) month 1) (days_from_civil (pos y) m d) 12 ≡ m
+months_begun-is : (y m d : ℕ) → IsCivilDate (pos y) m d → count_begun (λ month. days_from_civil (pos y) month 1) (days_from_civil (pos y) m d) 12 ≡ m
 months_begun-is y m d date =
-    let count = begun-is (λ month. days_from_civil (pos y) month 1) (days_from_civil (pos y) m d) m 12 (λ k low high. month_here k y m d date low high) (λ k above high. month_later k y m d date above) in
+    let count = count_begun-is (λ month. days_from_civil (pos y) month 1) (days_from_civil (pos y) m d) m 12 (λ k low high. month_here k y m d date low high) (λ k above high. month_later k y m d date above) in
     omega (arith, count, date)
 
 days_gone : (y m d : ℕ) → 1 ≤ d → unsigned_abs (days_from_civil (pos y) m d -ℤ days_from_civil (pos y) m 1) + 1 ≡ d

@@ -10,7 +10,7 @@ use Rattle.std.specs.Str.{bytes_eq}
 use Rattle.std.proofs.lemmas.Bool.{false≢true}
 use Rattle.std.proofs.lemmas.Slice.Eq.{bytes_eq-Decides}
 use Rattle.std.proofs.lemmas.Grind.{flat_map-append}
-use Rattle.std.proofs.lemmas.List.{take_all, take_more, drop_more}
+use Rattle.std.proofs.lemmas.List.{take_all, take_more, drop_more, length-map}
 use Rattle.std.proofs.lemmas.List.Elements.{All-cons, All-head, All-nil, All-tail, All-weaker}
 use Rattle.std.proofs.lemmas.List.Kept.{AllPairs-cons}
 use Rattle.std.proofs.lemmas.List.Sums.{AllPass-from_list_all, list_all-from_AllPass}
@@ -207,6 +207,16 @@ texts_len-is ts len i e whole =
     e ∙ ap (λ xs. held (2 + length (join_with_byte 44 (map quoted xs)))) (take_all i ts whole)
     ∙ ap held (sym (ap length text ∙ bracketed 91 93 (join_with_byte 44 (map quoted ts))))
 
+spelled : {T : Type 0} (text : T → List ℕ) (i : ℕ) (xs : List T) → map quoted (take i (map text xs)) ≡ map (λ x. quoted (text x)) (take i xs)
+spelled text zero xs = refl
+spelled text (suc i) [] = refl
+spelled text (suc i) (x ∷ xs) = ap (λ ys. quoted (text x) ∷ ys) (spelled text i xs)
+
+-- the same of items that have a text each
+pub listed_len-is : {T : Type 0} (text : T → List ℕ) (xs : List T) (len i : ℕ) → len ≡ held (2 + length (join_with_byte 44 (map (λ x. quoted (text x)) (take i xs)))) → length xs ≤ i → len ≡ held (length (printed (list_jv (map text_jv (map text xs)))))
+listed_len-is text xs len i e whole =
+    texts_len-is (map text xs) len i (e ∙ ap (λ ys. held (2 + length (join_with_byte 44 ys))) (sym (spelled text i xs))) (rw (length-map xs text) whole)
+
 pub member_len-is : (m : Member) (len : ℕ) (key : List ℕ) → key ≡ m.key → len ≡ held (length (quoted key ++ 58 ∷ printed m.value)) → len ≡ held (length (printed_member m))
 member_len-is m len key e f =
     f ∙ ap (λ k. held (length (quoted k ++ 58 ∷ printed m.value))) e ∙ ap (λ t. held (length t)) (sym (member_text_is m))
@@ -227,6 +237,14 @@ pub one_item_len : (most : ℕ) (items : List (List ℕ)) (len : ℕ) (x text : 
 one_item_len most [] len x text h k e f g = absurd (omega arith)
 one_item_len most (y ∷ ys) len x text h k e f g =
     quoted_len len y (g ∙ ap (λ t. held (length (quoted t))) (f ∙ e)) ∙ ap (λ v. held (length (printed v))) (sym (at_most_one most (y ∷ ys) h))
+
+pub no_listed_len : {T : Type 0} (text : T → List ℕ) (most : ℕ) (items : List T) → most ≤ 1 → length items < 1 → 2 ≡ held (length (printed (items_jv most (map text items))))
+no_listed_len text most [] h k = no_item_len most [] h k
+no_listed_len text most (x ∷ xs) h k = absurd (omega arith)
+
+pub one_listed_len : {T : Type 0} (text : T → List ℕ) (most : ℕ) (items : List T) (len : ℕ) (x : T) (s : List ℕ) → most ≤ 1 → 1 ≤ length items → x ≡ get_or items 0 x → s ≡ text x → len ≡ held (length (quoted s)) → len ≡ held (length (printed (items_jv most (map text items))))
+one_listed_len text most [] len x s h k e f g = absurd (omega arith)
+one_listed_len text most (y ∷ ys) len x s h k e f g = one_item_len most (text y ∷ map text ys) len (text x) s h (omega arith) (ap text e) f g
 
 pub moment_len-is : (m : ℤ) (len : ℕ) (text : List ℕ) → text ≡ date_text m → len ≡ held (length (quoted text)) → len ≡ held (length (printed (text_jv (date_text m))))
 moment_len-is m len text e f = quoted_len len (date_text m) (f ∙ ap (λ t. held (length (quoted t))) e)

@@ -13,7 +13,7 @@ use Rattle.jiff_core.proofs.SignedLemmas.{signed_arith}
 use Rattle.pocket_types.specs.Names.{IsMoment}
 use Rattle.pocket_ops.specs.declared.calendar.Civil.{Civil}
 use Rattle.pocket_ops.specs.Calendar.{civil_millis, IsCivil}
-use Rattle.pocket_ops.specs.Dates.{two_digits, clock_text, clock_millis, day_text, Zone, unwritten, utc, ahead, behind, zone_text, zone_millis, IsZone, Seconds, no_seconds, whole, fraction, seconds_text, seconds_millis, IsSeconds, three_digits, civil_text, fraction_millis, Time, no_time, at, time_text, time_millis, IsTime, Written, written_text, written_millis, IsWritten}
+use Rattle.pocket_ops.specs.Dates.{two_digits, clock_text, clock_millis, day_text, Zone, unwritten, utc, ahead, behind, zone_text, zone_millis, IsZone, Seconds, no_seconds, whole, fraction, seconds_text, seconds_millis, IsSeconds, three_digits, civil_text, fraction_millis, Time, no_time, at, time_text, time_millis, IsTime, Written, written_text, written_millis, IsWrittenDate}
 use Rattle.pocket_ops.specs.DateReading.{clock_of, zone_of, fraction_of, after_seconds_of, seconds_of, after_minutes_of, clock_and_rest_of, after_day_of, number_of_day, day_of_text, in_range, date_of}
 use Rattle.pocket_ops.proofs.CalendarLemmas.{not_less}
 use Rattle.pocket_ops.proofs.DigitLemmas.{pair_of-printed, pair_below-printed, digit_test, digit_char-is}
@@ -120,7 +120,7 @@ in_range-is m h =
     rw (low, high)
 
 -- a date as it is written is read as the moment that is written
-pub date_of-printed : (w : Written) → IsWritten w → IsMoment (written_millis w) → date_of (written_text w) ≡ Some (written_millis w)
+pub date_of-printed : (w : Written) → IsWrittenDate w → IsMoment (written_millis w) → date_of (written_text w) ≡ Some (written_millis w)
 unfolding date_of
 date_of-printed w h range =
     let long : nat_lt (length (written_text w)) 10 ≡ false = grind (arith, nat_tests) in
@@ -160,6 +160,6 @@ civil_millis-written c h =
 -- the text of a date and a time of day is read as its moment
 pub date_of-civil : (c : Civil) → IsCivil c → IsMoment (civil_millis c) → date_of (civil_text c) ≡ Some (civil_millis c)
 date_of-civil c h range =
-    let ok : IsWritten (as_written c) = (h.0.1, h.1, h.2, (inl refl, h.3, h.4, (h.5, (omega arith, omega arith), three_digits-digits c.millisecond h.6), tt)) in
+    let ok : IsWrittenDate (as_written c) = (h.0.1, h.1, h.2, (inl refl, h.3, h.4, (h.5, (omega arith, omega arith), three_digits-digits c.millisecond h.6), tt)) in
     let same = civil_millis-written c h in
     rw (civil_text-written c, ← same) (date_of-printed (as_written c) ok (rw same range))

@@ -5,12 +5,12 @@ use Rattle.jiff_core.specs.Calendar.{days_from_civil, days_in_month, weekday_num
 use Rattle.pocket_ops.specs.declared.calendar.Civil.{Civil}
 
 -- milliseconds since midnight
-abbrev pub time_millis : Civil → ℕ
-time_millis c = c.hour * 3_600_000 + c.minute * 60_000 + c.second * 1_000 + c.millisecond
+abbrev pub millis_of_day : Civil → ℕ
+millis_of_day c = c.hour * 3_600_000 + c.minute * 60_000 + c.second * 1_000 + c.millisecond
 
 -- the moment of a date and a time of day
 unfoldable pub civil_millis : Civil → ℤ
-civil_millis c = days_from_civil (pos c.year) c.month c.day *ℤ pos 86_400_000 +ℤ pos (time_millis c)
+civil_millis c = days_from_civil (pos c.year) c.month c.day *ℤ pos 86_400_000 +ℤ pos (millis_of_day c)
 
 -- the calendar has the date, in the years 1 to 9999, and a clock shows the time
 abbrev pub IsCivil : Civil → Type 0
@@ -29,17 +29,17 @@ abbrev pub time_of : ℤ → ℕ
 time_of m = unsigned_abs (int_rem_euclid m (pos 86_400_000))
 
 -- how many of the spans 1 to n begin on the day or before it, where `first` gives each span's first day
-unfoldable pub begun : (ℕ → ℤ) → ℤ → ℕ → ℕ
-begun first day zero = 0
-begun first day (suc n) = begun first day n + (if int_lt day (first (suc n)) then 0 else 1)
+unfoldable pub count_begun : (ℕ → ℤ) → ℤ → ℕ → ℕ
+count_begun first day zero = 0
+count_begun first day (suc n) = count_begun first day n + (if int_lt day (first (suc n)) then 0 else 1)
 
 -- the year of a day from 0001-01-01 to 9999-12-31: so many years have begun since the year 1
 abbrev pub year_of : ℤ → ℕ
-year_of day = begun (λ year. days_from_civil (pos year) 1 1) day 9999
+year_of day = count_begun (λ year. days_from_civil (pos year) 1 1) day 9999
 
 -- the month: so many have begun in the year
 abbrev pub month_of : ℤ → ℕ
-month_of day = begun (λ month. days_from_civil (pos (year_of day)) month 1) day 12
+month_of day = count_begun (λ month. days_from_civil (pos (year_of day)) month 1) day 12
 
 abbrev pub day_of_month : ℤ → ℕ
 day_of_month day = unsigned_abs (day -ℤ days_from_civil (pos (year_of day)) (month_of day) 1) + 1

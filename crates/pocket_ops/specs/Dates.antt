@@ -129,8 +129,8 @@ abbrev pub written_text : Written → List ℕ
 written_text w = day_text w.year w.month w.day ++ time_text w.time
 
 -- the calendar has the day; a year 0 may be written, since a zone may lead from it into the year 1
-abbrev pub IsWritten : Written → Type 0
-IsWritten w =
+abbrev pub IsWrittenDate : Written → Type 0
+IsWrittenDate w =
     (w.year ≤ 9999) × IsInRange 1 12 w.month × IsInRange 1 (days_in_month (pos w.year) w.month) w.day × IsTime w.time
 
 -- the moment that is written
@@ -139,4 +139,4 @@ written_millis w = days_from_civil (pos w.year) w.month w.day *ℤ pos 86_400_00
 
 -- a text is a date and stands for a moment, which is in the years 1 to 9999
 abbrev pub IsDateOf : List ℕ → ℤ → Type 0
-IsDateOf text m = (w : Written) × IsWritten w × (written_text w ≡ text) × (written_millis w ≡ m) × IsMoment m
+IsDateOf text m = (w : Written) × IsWrittenDate w × (written_text w ≡ text) × (written_millis w ≡ m) × IsMoment m

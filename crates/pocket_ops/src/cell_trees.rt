@@ -3,8 +3,9 @@ ghost use Rattle.std.specs.Prelude.{◌≡◌, IfOk};
 ghost use Rattle.pocket_ops.specs.Trees.{date_jv, items_jv, cell_jv};
 
 use crate::copies::copied_tree;
-use crate::trees::{flag_jv, ids_jv, moment_jv, text_jv, texts_jv};
-use pocket_types::{Cell, Id, Jv, Kind, Moment, Text};
+use crate::items::Item;
+use crate::trees::{flag_jv, moment_jv, text_jv, texts_jv};
+use pocket_types::{Cell, Jv, Kind, Moment};
 use std::alloc::{AllocError, Global};
 
 /// A moment's text, or the empty text.
@@ -17,27 +18,14 @@ pub fn date_jv(alloc: Global, date: &Option<Moment>) -> Result<Jv, AllocError>
     }
 }
 
-/// The items of a select that may hold so many.
-fn picks_jv(alloc: Global, most: u32, picks: &[Text]) -> Result<Jv, AllocError>
-    ensures { IfOk result (λ tree. tree ≡ items_jv most picks.now) }
+/// The items of a field that may hold so many.
+fn items_jv<T: Item>(alloc: Global, most: u32, items: &[T]) -> Result<Jv, AllocError>
+    ensures { IfOk result (λ tree. tree ≡ items_jv most (T.texts items.now)) }
 {
     if most > 1 {
-        return texts_jv(alloc, picks);
+        return texts_jv(alloc, items);
     }
-    match picks {
-        [] => text_jv(alloc, ""),
-        [first, ..] => text_jv(alloc, first.as_str()),
-    }
-}
-
-/// The items of a relation that may hold so many.
-fn refs_jv(alloc: Global, most: u32, ids: &[Id]) -> Result<Jv, AllocError>
-    ensures { IfOk result (λ tree. tree ≡ items_jv most ids.now) }
-{
-    if most > 1 {
-        return ids_jv(alloc, ids);
-    }
-    match ids {
+    match items {
         [] => text_jv(alloc, ""),
         [first, ..] => text_jv(alloc, first.as_str()),
     }
@@ -51,8 +39,8 @@ pub fn cell_jv(alloc: Global, kind: &Kind, cell: &Cell) -> Result<Jv, AllocError
         Cell::Num(n) => Ok(Jv::Num(*n)),
         Cell::Flag(flag) => Ok(flag_jv(*flag)),
         Cell::Date(date) => date_jv(alloc, date),
-        Cell::Picks(picks) => picks_jv(alloc, kind.most(), picks.as_slice()),
+        Cell::Picks(picks) => items_jv(alloc, kind.most(), picks.as_slice()),
         Cell::Json(tree) => copied_tree(alloc, tree),
-        Cell::Refs(ids) => refs_jv(alloc, kind.most(), ids.as_slice()),
+        Cell::Refs(ids) => items_jv(alloc, kind.most(), ids.as_slice()),
     }
 }

@@ -3,7 +3,8 @@ ghost use Rattle.pocket_types.specs.Json.{printed};
 ghost use Rattle.pocket_types.specs.declared.values.Value.TheVariants as value;
 ghost use Rattle.pocket_ops.specs.Cells.{items_of, items_value, date_value, tree_value, cell_value, count_value, lowered};
 
-use crate::trees::{ids_jv, moment_text, texts_jv};
+use crate::items::Item;
+use crate::trees::{moment_text, texts_jv};
 use pocket_types::{Cell, Field, Id, Jv, Moment, Text, Value};
 use std::alloc::{AllocError, Global};
 
@@ -22,22 +23,12 @@ fn date_value(alloc: Global, date: &Option<Moment>) -> Result<Value, AllocError>
     }
 }
 
-fn picks_value(alloc: Global, several: bool, picks: &[Text]) -> Result<Value, AllocError>
-    ensures { IfOk result (λ v. v ≡ items_value several picks.now) }
+fn items_value<T: Item>(alloc: Global, several: bool, items: &[T]) -> Result<Value, AllocError>
+    ensures { IfOk result (λ v. v ≡ items_value several (T.texts items.now)) }
 {
-    match picks {
+    match items {
         [] => Ok(Value::Nothing),
-        _ if several => Ok(Value::Text(texts_jv(alloc, picks)?.print(alloc)?)),
-        [first, ..] => text_value(alloc, first.as_str()),
-    }
-}
-
-fn refs_value(alloc: Global, several: bool, ids: &[Id]) -> Result<Value, AllocError>
-    ensures { IfOk result (λ v. v ≡ items_value several ids.now) }
-{
-    match ids {
-        [] => Ok(Value::Nothing),
-        _ if several => Ok(Value::Text(ids_jv(alloc, ids)?.print(alloc)?)),
+        _ if several => Ok(Value::Text(texts_jv(alloc, items)?.print(alloc)?)),
         [first, ..] => text_value(alloc, first.as_str()),
     }
 }
@@ -66,9 +57,9 @@ pub fn cell_value(alloc: Global, field: &Field, cell: &Cell) -> Result<Value, Al
         Cell::Num(n) => Ok(Value::Num(*n)),
         Cell::Flag(flag) => Ok(Value::Flag(*flag)),
         Cell::Date(date) => date_value(alloc, date),
-        Cell::Picks(picks) => picks_value(alloc, field.kind.is_multiple(), picks.as_slice()),
+        Cell::Picks(picks) => items_value(alloc, field.kind.is_multiple(), picks.as_slice()),
         Cell::Json(tree) => tree_value(alloc, tree),
-        Cell::Refs(ids) => refs_value(alloc, field.kind.is_multiple(), ids.as_slice()),
+        Cell::Refs(ids) => items_value(alloc, field.kind.is_multiple(), ids.as_slice()),
     }
 }
 

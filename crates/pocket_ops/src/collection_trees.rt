@@ -6,7 +6,7 @@ ghost use Rattle.pocket_types.specs.declared.json.Jv.{Jv};
 ghost use Rattle.pocket_types.specs.declared.records.Kind.TheVariants as kind;
 
 use crate::cell_trees::date_jv;
-use crate::trees::{flag_jv, num_jv, push_member, push_text, text_jv, texts_jv};
+use crate::trees::{flag_jv, num_jv, push_made, push_member, push_text, text_jv, texts_jv};
 use pocket_types::{Collection, Field, Jv, Kind, Member, Moment, Name, Rule, Seq, Text};
 use std::alloc::{AllocError, Global};
 
@@ -247,11 +247,11 @@ fn field_jv(alloc: Global, field: &Field) -> Result<Jv, AllocError>
 fn fields_jv(alloc: Global, fields: &[Field]) -> Result<Jv, AllocError>
     ensures { IfOk result (λ tree. tree ≡ list_jv (map field_jv fields.now)) }
 {
-    let mut items = Vec::new(alloc);
+    let mut trees = Seq::new(alloc);
     for field in fields {
-        items.push(field_jv(alloc, field)?)?;
+        push_made(&mut trees, field_jv(alloc, field))?;
     }
-    Ok(Jv::List(Seq::from_vec(items)))
+    Ok(Jv::List(trees))
 }
 
 fn first_members(alloc: Global, collection: &Collection) -> Result<Vec<Member>, AllocError>

@@ -1,5 +1,6 @@
 ghost use Rattle.std.specs.Prelude.{◌≡◌, IfOk};
 
+use crate::trees::push_made;
 use pocket_types::{Jv, Member, Seq};
 use std::alloc::{AllocError, Global};
 
@@ -24,7 +25,7 @@ fn copied_items(alloc: Global, items: &Seq<Jv>) -> Result<Seq<Jv>, AllocError>
 {
     let mut copies = Seq::new(alloc);
     for item in items.as_slice() {
-        copies.push(copied_tree(alloc, item)?)?;
+        push_made(&mut copies, copied_tree(alloc, item))?;
     }
     Ok(copies)
 }

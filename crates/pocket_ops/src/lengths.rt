@@ -6,8 +6,9 @@ ghost use Rattle.pocket_types.specs.Json.{printed, printed_member, quoted, escap
 ghost use Rattle.pocket_ops.specs.Cells.{texts_jv};
 ghost use Rattle.pocket_ops.specs.Lengths.{held};
 
+use crate::items::Item;
 use itoa::Buffer;
-use pocket_types::{Id, Jv, Member, Text};
+use pocket_types::{Jv, Member};
 
 /// How many bytes stand for a byte in a string.
 #[tactic(auto, unfolding(pocket_types::specs::Json::escape_byte))]
@@ -39,26 +40,14 @@ fn comma_len(at: usize) -> u64
     if at > 0 { 1 } else { 0 }
 }
 
-/// The length of a list of texts.
-pub fn texts_len(texts: &[Text]) -> u64
-    ensures { result ≡ held (length (printed (texts_jv texts.now))) }
+/// The length of the list of the texts of items.
+pub fn texts_len<T: Item>(items: &[T]) -> u64
+    ensures { result ≡ held (length (printed (texts_jv (T.texts items.now)))) }
 {
     let mut len = 2u64;
-    for (i, text) in texts.iter().enumerate() {
+    for (i, item) in items.iter().enumerate() {
         len = len.saturating_add(comma_len(i));
-        len = len.saturating_add(text_len(text.as_str()));
-    }
-    len
-}
-
-/// The length of a list of ids.
-pub fn ids_len(ids: &[Id]) -> u64
-    ensures { result ≡ held (length (printed (texts_jv ids.now))) }
-{
-    let mut len = 2u64;
-    for (i, id) in ids.iter().enumerate() {
-        len = len.saturating_add(comma_len(i));
-        len = len.saturating_add(text_len(id.as_str()));
+        len = len.saturating_add(text_len(item.as_str()));
     }
     len
 }

@@ -10,6 +10,7 @@ mod comparison;
 mod copies;
 mod date_reading;
 mod date_texts;
+mod items;
 pub mod laws;
 mod lengths;
 mod likeness;

@@ -9,8 +9,9 @@ ghost use Rattle.pocket_types.specs.Maps.{map_jv};
 ghost use Rattle.pocket_ops.specs.Trees.{text_jv, date_jv, items_jv, cell_jv, date_members};
 
 use crate::date_texts::{as_text, date_text};
-use crate::lengths::{ids_len, member_len, num_len, text_len, texts_len, tree_len};
-use pocket_types::{Cell, Collection, Field, Id, Kind, Moment, Rec, Text};
+use crate::items::Item;
+use crate::lengths::{member_len, num_len, text_len, texts_len, tree_len};
+use pocket_types::{Cell, Collection, Field, Kind, Moment, Rec};
 
 /// The length of a moment's text and its quotes.
 fn moment_len(moment: &Moment) -> u64
@@ -38,25 +39,13 @@ fn dates_len(rec: &Rec) -> u64
     created.saturating_add(updated).saturating_add(3)
 }
 
-fn picks_len(most: u32, picks: &[Text]) -> u64
-    ensures { result ≡ held (length (printed (items_jv most picks.now))) }
+fn items_len<T: Item>(most: u32, items: &[T]) -> u64
+    ensures { result ≡ held (length (printed (items_jv most (T.texts items.now)))) }
 {
     if most > 1 {
-        return texts_len(picks);
+        return texts_len(items);
     }
-    match picks {
-        [] => 2,
-        [first, ..] => text_len(first.as_str()),
-    }
-}
-
-fn refs_len(most: u32, ids: &[Id]) -> u64
-    ensures { result ≡ held (length (printed (items_jv most ids.now))) }
-{
-    if most > 1 {
-        return ids_len(ids);
-    }
-    match ids {
+    match items {
         [] => 2,
         [first, ..] => text_len(first.as_str()),
     }
@@ -72,9 +61,9 @@ fn cell_len(kind: &Kind, cell: &Cell) -> u64
         Cell::Flag(true) => 4,
         Cell::Flag(false) => 5,
         Cell::Date(date) => date_len(date),
-        Cell::Picks(picks) => picks_len(kind.most(), picks.as_slice()),
+        Cell::Picks(picks) => items_len(kind.most(), picks.as_slice()),
         Cell::Json(tree) => tree_len(tree),
-        Cell::Refs(ids) => refs_len(kind.most(), ids.as_slice()),
+        Cell::Refs(ids) => items_len(kind.most(), ids.as_slice()),
     }
 }
 

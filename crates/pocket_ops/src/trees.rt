@@ -1,12 +1,13 @@
 // Trees of texts and of texts in lists, and the members of maps.
-ghost use Rattle.std.specs.Prelude.{◌≡◌, [], ◌∷◌, ◌++◌, IfOk, map, pos};
+ghost use Rattle.std.specs.Prelude.{◌≡◌, [], ◌∷◌, ◌++◌, Err, IfOk, MatchResult, map, pos};
 ghost use Rattle.pocket_ops.specs.Cells.{texts_jv};
 ghost use Rattle.pocket_ops.specs.Dates.{date_text};
 ghost use Rattle.pocket_types.specs.Maps.{map_jv, member_of};
 ghost use Rattle.pocket_ops.specs.Trees.{text_jv, num_jv, flag_jv};
 
 use crate::date_texts::{as_text, date_text};
-use pocket_types::{Id, Jv, Member, Moment, Seq, Text};
+use crate::items::Item;
+use pocket_types::{Jv, Member, Moment, Seq, Text};
 use std::alloc::{AllocError, Global};
 use std::collections::BTreeMap;
 
@@ -42,24 +43,25 @@ pub fn flag_jv(flag: bool) -> Jv
     Jv::Flag(flag)
 }
 
-pub fn texts_jv(alloc: Global, texts: &[Text]) -> Result<Jv, AllocError>
-    ensures { IfOk result (λ tree. tree ≡ texts_jv texts.now) }
+/// The list of the texts of items.
+pub fn texts_jv<T: Item>(alloc: Global, items: &[T]) -> Result<Jv, AllocError>
+    ensures { IfOk result (λ tree. tree ≡ texts_jv (T.texts items.now)) }
 {
-    let mut items = Vec::new(alloc);
-    for text in texts {
-        items.push(text_jv(alloc, text.as_str())?)?;
+    let mut trees = Seq::new(alloc);
+    for item in items {
+        push_made(&mut trees, text_jv(alloc, item.as_str()))?;
     }
-    Ok(Jv::List(Seq::from_vec(items)))
+    Ok(Jv::List(trees))
 }
 
-pub fn ids_jv(alloc: Global, ids: &[Id]) -> Result<Jv, AllocError>
-    ensures { IfOk result (λ tree. tree ≡ texts_jv ids.now) }
+/// Adds a tree to a list, where there is one. A loop that calls this holds no tree of its own.
+pub fn push_made(trees: &mut Seq<Jv>, tree: Result<Jv, AllocError>) -> Result<(), AllocError>
+    ensures { MatchResult tree (λ t. IfOk result (λ _. trees.new ≡ trees.old ++ t ∷ [])) (λ e. result ≡ Err e) }
 {
-    let mut items = Vec::new(alloc);
-    for id in ids {
-        items.push(text_jv(alloc, id.as_str())?)?;
+    match tree {
+        Ok(tree) => trees.push(tree),
+        Err(refused) => Err(refused),
     }
-    Ok(Jv::List(Seq::from_vec(items)))
 }
 
 pub fn push_member(

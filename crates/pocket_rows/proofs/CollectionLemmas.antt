@@ -20,6 +20,7 @@ use Rattle.pocket_keeper.specs.Texts.{collection_row}
 use Rattle.pocket_keeper.specs.declared.rows.KeptRow.{KeptRow}
 use Rattle.pocket_rows.proofs.EntryLemmas.{among_is}
 use Rattle.pocket_rows.proofs.FieldLemmas.{fields_once}
+use Rattle.pocket_rows.proofs.Utf8Lemmas.{collection_utf8}
 use Rattle.pocket_rows.proofs.FieldTrees.{fields_fine}
 use Rattle.pocket_rows.proofs.ProfileLemmas.{text_fine}
 use Rattle.pocket_rows.proofs.TreeForms.{same_layer, text_once, map_once}
@@ -122,7 +123,7 @@ pub collection_profiled : (c : Collection) → IsSoundCollection c → IsProfile
 collection_profiled c sound =
     let fine = fine_map 31 (collection_members c)
     (rule_fine c.create_rule, (rule_fine c.delete_rule, (fields_fine c.fields sound.fields, (rule_fine c.list_rule, (text_fine c.name, (text_fine (type_text c.is_auth), (rule_fine c.update_rule, (rule_fine c.view_rule, tt)))))))) refl in
-    record { keys = fine.0; numbers = fine.1; depth = omega (arith, fine.2) }
+    record { keys = fine.0; numbers = fine.1; texts = collection_utf8 c sound; depth = omega (arith, fine.2) }
 
 -- ---- one row, one collection
 

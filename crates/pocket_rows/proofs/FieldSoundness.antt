@@ -14,8 +14,8 @@ use Rattle.pocket_types.specs.declared.json.Member.{Member}
 use Rattle.pocket_types.specs.declared.records.Field.{Field}
 use Rattle.pocket_types.specs.declared.records.Kind.{Kind}
 use Rattle.pocket_types.specs.declared.records.Kind.TheVariants as kind
-use Rattle.pocket_types.specs.Profile.{keys_rise, numbers_small, levels, greatest, IsProfiled}
-use Rattle.pocket_json.proofs.Layers.{rising_list, small_list, levels_list}
+use Rattle.pocket_types.specs.Profile.{keys_rise, numbers_small, texts_utf8, levels, greatest, IsProfiled}
+use Rattle.pocket_json.proofs.Layers.{rising_list, small_list, utf8_list, levels_list}
 use Rattle.pocket_json.proofs.Profiles.{and_parts}
 use Rattle.pocket_ops.specs.DateReading.{date_of}
 use Rattle.pocket_ops.specs.Dates.{IsDateOf}
@@ -215,7 +215,7 @@ members_sound ms h =
     (λ i w. map_some _ (unique_at k ms) (λ u. IsTrue u → IsTrue (may_be_unique k)) IsSoundField (unique_sound k ms) (λ u x. record { name = p; kind = q; unique = x })))))
 
 pub members_shallow : (tree : Jv) (ms : List Member) → tree ≡ roll-Jv (jv.Map ms) → IsCellTree tree → AreShallow ms
-members_shallow tree ms e h = map_shallow ms (subst IsProfiled e (record { keys = h.keys; numbers = h.numbers; depth = omega (arith, h.depth) }))
+members_shallow tree ms e h = map_shallow ms (subst IsProfiled e (record { keys = h.keys; numbers = h.numbers; texts = h.texts; depth = omega (arith, h.depth) }))
 
 field_sound : (tree : Jv) → IsCellTree tree → IfSome (field_read tree) IsSoundField
 unfolding field_read
@@ -229,17 +229,18 @@ field_sound tree h = by (out-Jv tree) refl
     by (jv.List items) e = tt
     by (jv.Map ms) e = members_sound ms (members_shallow tree ms (sym (roll-out-Jv tree) ∙ ap roll-Jv e) h)
 
-trees_shallow : (ts : List Jv) → list_all keys_rise ts ≡ true → list_all numbers_small ts ≡ true → greatest (map levels ts) ≤ 31 → All IsCellTree ts
-trees_shallow [] k s l = All-nil IsCellTree
-trees_shallow (t ∷ ts) k s l =
+trees_shallow : (ts : List Jv) → list_all keys_rise ts ≡ true → list_all numbers_small ts ≡ true → list_all texts_utf8 ts ≡ true → greatest (map levels ts) ≤ 31 → All IsCellTree ts
+trees_shallow [] k s u l = All-nil IsCellTree
+trees_shallow (t ∷ ts) k s u l =
     let ks = and_parts (keys_rise t) (list_all keys_rise ts) k in
     let ss = and_parts (numbers_small t) (list_all numbers_small ts) s in
-    All-cons IsCellTree t ts (record { keys = ks.0; numbers = ss.0; depth = omega (arith, l) }) (trees_shallow ts ks.1 ss.1 (omega (arith, l)))
+    let us = and_parts (texts_utf8 t) (list_all texts_utf8 ts) u in
+    All-cons IsCellTree t ts (record { keys = ks.0; numbers = ss.0; texts = us.0; depth = omega (arith, l) }) (trees_shallow ts ks.1 ss.1 us.1 (omega (arith, l)))
 
 pub items_shallow : (tree : Jv) (ts : List Jv) → tree ≡ list_jv ts → IsCellTree tree → All IsCellTree ts
 items_shallow tree ts e h =
     let q = subst IsCellTree e h in
-    trees_shallow ts (sym (rising_list ts) ∙ q.keys) (sym (small_list ts) ∙ q.numbers) (omega (arith, levels_list ts, q.depth))
+    trees_shallow ts (sym (rising_list ts) ∙ q.keys) (sym (small_list ts) ∙ q.numbers) (sym (utf8_list ts) ∙ q.texts) (omega (arith, levels_list ts, q.depth))
 
 -- ---- the fields of a list
 

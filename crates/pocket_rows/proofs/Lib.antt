@@ -12,3 +12,4 @@ pub mod ProfileLemmas
 pub mod ReadLemmas
 pub mod RecLemmas
 pub mod TreeForms
+pub mod Utf8Lemmas

@@ -128,7 +128,7 @@ days_again m h = omega (arith, signed_arith, since_first m h)
 time_below : (m : ℤ) → time_of m < 86_400_000
 time_below m = omega (arith, signed_arith)
 
-civil_of-form : (m : ℤ) → IsMoment m → IsCivil (civil_of m) × (civil_millis (civil_of m) ≡ m)
+pub civil_of-form : (m : ℤ) → IsMoment m → IsCivil (civil_of m) × (civil_millis (civil_of m) ≡ m)
 civil_of-form m h =
     let x = date_of_day (unsigned_abs (day_of m +ℤ pos 719_162)) (days_counted m h) in
     let t = time_of m in

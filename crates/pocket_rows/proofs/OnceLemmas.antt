@@ -148,7 +148,7 @@ pub rec_once : (c : Collection) (r s : Rec) → IsSoundCollection c → IsSoundR
 rec_once c r s whole x y e =
     let keys : rec_key c.name r.id ≡ rec_key c.name s.id = ap (λ row. row.key) e in
     let ids : r.id ≡ s.id = append_cancel_left (47 ∷ []) r.id s.id (append_cancel_left c.name _ _ (append_cancel_left (codes "r/") _ _ keys)) in
-    let same = members_once (rec_members true c r) (rec_members true c s) (kept_profiled c r x) (kept_profiled c s y) (ap (λ row. row.value) e) in
+    let same = members_once (rec_members true c r) (rec_members true c s) (kept_profiled c r whole x) (kept_profiled c s whole y) (ap (λ row. row.value) e) in
     rec_from c r s (map member_of (rec_members true c s)) x y ids (subst (IsUnder c r) same (rec_under c r whole)) (rec_under c s whole)
 
 -- ---- tokens
@@ -163,5 +163,5 @@ token_from t u members x y text p q =
 pub token_once : (t u : Token) → IsSoundToken t → IsSoundToken u → token_row t ≡ token_row u → t ≡ u
 token_once t u x y e =
     let texts : t.text ≡ u.text = append_cancel_left (codes "t/") t.text u.text (ap (λ row. row.key) e) in
-    let same = members_once (token_members t.collection t.id t.until) (token_members u.collection u.id u.until) (token_profiled t) (token_profiled u) (ap (λ row. row.value) e) in
+    let same = members_once (token_members t.collection t.id t.until) (token_members u.collection u.id u.until) (token_profiled t x) (token_profiled u y) (ap (λ row. row.value) e) in
     token_from t u (map member_of (token_members u.collection u.id u.until)) x y texts (subst (IsTokenUnder t) same (token_under t)) (token_under u)

@@ -21,7 +21,9 @@ use Rattle.pocket_ops.specs.Trees.{text_jv, num_jv, flag_jv, list_jv, date_jv, o
 use Rattle.pocket_keeper.specs.Texts.{token_members}
 use Rattle.pocket_keeper.specs.declared.tokens.Token.{Token}
 use Rattle.pocket_rows.proofs.MemberLemmas.{Entries}
-use Rattle.pocket_types.specs.Sound.{IsSmall, Fits, AllFit, IsSoundRec}
+use Rattle.pocket_rows.proofs.Utf8Lemmas.{kept_utf8, token_utf8}
+use Rattle.pocket_rows.specs.SoundTokens.{IsSoundToken}
+use Rattle.pocket_types.specs.Sound.{IsSmall, Fits, AllFit, IsSoundCollection, IsSoundRec}
 
 -- ---- trees of one layer
 
@@ -94,15 +96,15 @@ cells_fine (x ∷ fs) (c ∷ cs) es h f =
 dates_fine : (r : Rec) → AreFine (date_members r)
 dates_fine r = ((text_fine (date_text r.created), (text_fine (date_text r.updated), tt)), refl)
 
-pub kept_profiled : (c : Collection) (r : Rec) → IsSoundRec c r → IsProfiled (kept_jv c r)
-kept_profiled c r sound =
+pub kept_profiled : (c : Collection) (r : Rec) → IsSoundCollection c → IsSoundRec c r → IsProfiled (kept_jv c r)
+kept_profiled c r whole sound =
     let all = cells_fine c.fields r.cells (date_members r) sound.cells (dates_fine r) in
     let fine = fine_map 31 (rec_members true c r) all.0 all.1 in
-    record { keys = fine.0; numbers = fine.1; depth = omega (arith, fine.2) }
+    record { keys = fine.0; numbers = fine.1; texts = kept_utf8 c r whole sound; depth = omega (arith, fine.2) }
 
 -- ---- tokens
 
-pub token_profiled : (t : Token) → IsProfiled (map_jv (token_members t.collection t.id t.until))
-token_profiled t =
+pub token_profiled : (t : Token) → IsSoundToken t → IsProfiled (map_jv (token_members t.collection t.id t.until))
+token_profiled t sound =
     let fine = fine_map 31 (token_members t.collection t.id t.until) (text_fine t.collection, (text_fine t.id, (text_fine (date_text t.until), tt))) refl in
-    record { keys = fine.0; numbers = fine.1; depth = omega (arith, fine.2) }
+    record { keys = fine.0; numbers = fine.1; texts = token_utf8 t sound; depth = omega (arith, fine.2) }

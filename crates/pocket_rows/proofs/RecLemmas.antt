@@ -1,6 +1,7 @@
 -- The record and the token that a row may keep.
 use Rattle.std.proofs.Common.{◌≡◌, ◌≢◌, ◌≤◌, ◌<◌, ◌+◌, ℕ, ℤ, true, List, [], ◌∷◌, ◌++◌, codes, map, length, get_or, drop, drop-cons, add-one, Option, Some, None, IsTrue, IsUtf8, MatchOption, refl, sym, ap, subst, ◌∙◌, arith, rules, append_assoc, append-nil}
 use Rattle.std.specs.List.{list_all}
+use Rattle.std.specs.Str.{is_utf8}
 use Rattle.std.proofs.lemmas.List.{append_cancel_left}
 use Rattle.std.proofs.lemmas.List.Elements.{All-cons, All-nil}
 use Rattle.pocket_types.specs.Names.{is_id, is_name, IsMoment}
@@ -12,9 +13,9 @@ use Rattle.pocket_types.specs.declared.records.Cell.{Cell}
 use Rattle.pocket_types.specs.declared.records.Collection.{Collection}
 use Rattle.pocket_types.specs.declared.records.Field.{Field}
 use Rattle.pocket_types.specs.declared.records.Rec.{Rec}
-use Rattle.pocket_types.specs.Profile.{keys_rise, numbers_small, levels, greatest, IsProfiled}
+use Rattle.pocket_types.specs.Profile.{keys_rise, numbers_small, texts_utf8, entry_utf8, levels, greatest, IsProfiled}
 use Rattle.pocket_json.specs.Reading.{read, IsJson}
-use Rattle.pocket_json.proofs.Layers.{rising_map, small_map, levels_map}
+use Rattle.pocket_json.proofs.Layers.{rising_map, small_map, utf8_map, levels_map}
 use Rattle.pocket_json.proofs.Profiles.{and_parts}
 use Rattle.pocket_json.proofs.RoundTrips.{read_printed}
 use Rattle.pocket_ops.specs.DateReading.{date_of}
@@ -31,7 +32,7 @@ use Rattle.pocket_rows.proofs.TreeForms.{map_once, text_once}
 use Rattle.pocket_rows.specs.Cells.{AreShallow, value_under, IsNoTree, IsTreeOf, IsNoMap, MayBeMap, HasNoMoment, MayHaveMoment, HasNoCell, MayHaveCell, AreUnder, HasNoCells, MayHaveCells, IsUnder, HasNoRec, MayHaveRec, MayKeepRec, IsTokenUnder, HasNoToken, MayHaveToken, MayKeepToken}
 use Rattle.pocket_rows.specs.RowReading.{KeepsNoRec, KeepsNoToken}
 use Rattle.pocket_types.specs.Sound.{IsCellTree, AllFit, IsSoundCollection, IsSoundRec}
-use Rattle.pocket_rows.specs.SoundTokens.{is_token}
+use Rattle.pocket_rows.specs.SoundTokens.{is_token, IsSoundToken}
 
 -- ---- texts of trees
 
@@ -60,20 +61,22 @@ members_again : (ms : List Member) → map member_of (entries_of ms) ≡ ms
 members_again [] = refl
 members_again (m ∷ ms) = λ i. member_again m i ∷ members_again ms i
 
-values_shallow : (ms : List Member) → list_all (λ e. keys_rise e.1) (entries_of ms) ≡ true → list_all (λ e. numbers_small e.1) (entries_of ms) ≡ true → greatest (map (λ e. levels e.1) (entries_of ms)) ≤ 31
+values_shallow : (ms : List Member) → list_all (λ e. keys_rise e.1) (entries_of ms) ≡ true → list_all (λ e. numbers_small e.1) (entries_of ms) ≡ true → list_all entry_utf8 (entries_of ms) ≡ true → greatest (map (λ e. levels e.1) (entries_of ms)) ≤ 31
     → AreShallow ms
-values_shallow [] k s l = All-nil (λ m. IsCellTree m.value)
-values_shallow (m ∷ ms) k s l =
+values_shallow [] k s u l = All-nil (λ m. IsCellTree m.value)
+values_shallow (m ∷ ms) k s u l =
     let ks = and_parts (keys_rise m.value) (list_all (λ e. keys_rise e.1) (entries_of ms)) k in
     let ss = and_parts (numbers_small m.value) (list_all (λ e. numbers_small e.1) (entries_of ms)) s in
-    All-cons (λ m. IsCellTree m.value) m ms (record { keys = ks.0; numbers = ss.0; depth = omega (arith, l) }) (values_shallow ms ks.1 ss.1 (omega (arith, l)))
+    let us = and_parts (entry_utf8 (m.key, m.value)) (list_all entry_utf8 (entries_of ms)) u in
+    let text = and_parts (is_utf8 m.key) (texts_utf8 m.value) us.0 in
+    All-cons (λ m. IsCellTree m.value) m ms (record { keys = ks.0; numbers = ss.0; texts = text.1; depth = omega (arith, l) }) (values_shallow ms ks.1 ss.1 us.1 (omega (arith, l)))
 
 pub map_shallow : (ms : List Member) → IsProfiled (roll-Jv (jv.Map ms)) → AreShallow ms
 map_shallow ms p =
     let es = entries_of ms in
     let q : IsProfiled (map_jv es) = subst (λ x. IsProfiled (roll-Jv (jv.Map x))) (sym (members_again ms)) p in
     let ks = and_parts _ (list_all (λ e. keys_rise e.1) es) (sym (rising_map es) ∙ q.keys) in
-    values_shallow ms ks.1 (sym (small_map es) ∙ q.numbers) (omega (arith, levels_map es, q.depth))
+    values_shallow ms ks.1 (sym (small_map es) ∙ q.numbers) (sym (utf8_map es) ∙ q.texts) (omega (arith, levels_map es, q.depth))
 
 pub map_is : (text : List ℕ) (tree : Jv) (members : List Member) → IsTreeOf text tree → tree ≡ roll-Jv (jv.Map members) → MayBeMap text members
 map_is text tree members is e = record {
@@ -182,12 +185,12 @@ rec_is c ms fields r e id created updated cells =
 pub no_rec-id : (c : Collection) (row : KeptRow) (key name : List ℕ) → key ≡ row.key → name ≡ c.name → ((id : List ℕ) → IsTrue (is_id id) → key ≢ rec_key name id) → KeepsNoRec c row
 no_rec-id c row key name ek en none r sound e = none r.id sound.id (ek ∙ ap (λ x. x.key) e ∙ ap (λ x. rec_key x r.id) (sym en))
 
-pub no_rec-map : (c : Collection) (row : KeptRow) (value : List ℕ) → value ≡ row.value → IsNoMap value → KeepsNoRec c row
-no_rec-map c row value ev none r sound e = none (rec_members true c r) (kept_profiled c r sound) (ev ∙ ap (λ x. x.value) e)
+pub no_rec-map : (c : Collection) (row : KeptRow) (value : List ℕ) → IsSoundCollection c → value ≡ row.value → IsNoMap value → KeepsNoRec c row
+no_rec-map c row value whole ev none r sound e = none (rec_members true c r) (kept_profiled c r whole sound) (ev ∙ ap (λ x. x.value) e)
 
 there_under : (c : Collection) (row : KeptRow) (value : List ℕ) (ms : List Member) → IsSoundCollection c → value ≡ row.value → MayBeMap value ms → (r : Rec) → IsSoundRec c r → row ≡ rec_row c r → IsUnder c r ms
 there_under c row value ms whole ev is r sound e =
-    subst (IsUnder c r) (sym (is.only (rec_members true c r) (kept_profiled c r sound) (ev ∙ ap (λ x. x.value) e))) (rec_under c r whole)
+    subst (IsUnder c r) (sym (is.only (rec_members true c r) (kept_profiled c r whole sound) (ev ∙ ap (λ x. x.value) e))) (rec_under c r whole)
 
 pub no_rec : (c : Collection) (row : KeptRow) (value : List ℕ) (ms : List Member) → IsSoundCollection c → value ≡ row.value → MayBeMap value ms → HasNoRec c ms → KeepsNoRec c row
 no_rec c row value ms whole ev is none r sound e = none r sound (there_under c row value ms whole ev is r sound e)
@@ -208,21 +211,21 @@ pub no_token-key : (row : KeptRow) (key : List ℕ) → key ≡ row.key → ((te
 no_token-key row key ek none t sound e = none t.text sound.text (ek ∙ ap (λ x. x.key) e)
 
 pub no_token-map : (row : KeptRow) (value : List ℕ) → value ≡ row.value → IsNoMap value → KeepsNoToken row
-no_token-map row value ev none t sound e = none (token_members t.collection t.id t.until) (token_profiled t) (ev ∙ ap (λ x. x.value) e)
+no_token-map row value ev none t sound e = none (token_members t.collection t.id t.until) (token_profiled t sound) (ev ∙ ap (λ x. x.value) e)
 
-token_there : (row : KeptRow) (value : List ℕ) (ms : List Member) → value ≡ row.value → MayBeMap value ms → (t : Token) → row ≡ token_row t → IsTokenUnder t ms
-token_there row value ms ev is t e =
-    subst (IsTokenUnder t) (sym (is.only (token_members t.collection t.id t.until) (token_profiled t) (ev ∙ ap (λ x. x.value) e))) (token_under t)
+token_there : (row : KeptRow) (value : List ℕ) (ms : List Member) → value ≡ row.value → MayBeMap value ms → (t : Token) → IsSoundToken t → row ≡ token_row t → IsTokenUnder t ms
+token_there row value ms ev is t sound e =
+    subst (IsTokenUnder t) (sym (is.only (token_members t.collection t.id t.until) (token_profiled t sound) (ev ∙ ap (λ x. x.value) e))) (token_under t)
 
 pub no_token : (row : KeptRow) (value : List ℕ) (ms : List Member) → value ≡ row.value → MayBeMap value ms → HasNoToken ms → KeepsNoToken row
-no_token row value ms ev is none t sound e = none t sound (token_there row value ms ev is t e)
+no_token row value ms ev is none t sound e = none t sound (token_there row value ms ev is t sound e)
 
 pub token_kept : (row : KeptRow) (key text value : List ℕ) (ms : List Member) (t : Token) → key ≡ row.key → key ≡ codes "t/" ++ text → value ≡ row.value → MayBeMap value ms → MayHaveToken text ms t → MayKeepToken row t
 token_kept row key text value ms t ek et ev is may = record {
   sound = may.sound;
   only = λ u sound e.
       let texts : u.text ≡ text = append_cancel_left (codes "t/") u.text text (sym (ap (λ x. x.key) e) ∙ sym ek ∙ et) in
-      may.only u sound texts (token_there row value ms ev is u e);
+      may.only u sound texts (token_there row value ms ev is u sound e);
 }
 
 pub token_is : (ms : List Member) (text : List ℕ) (t : Token) → t.text ≡ text → IsTrue (is_token text) → IsTrue (is_name t.collection) → value_under (codes "collection") ms ≡ Some (text_jv t.collection)

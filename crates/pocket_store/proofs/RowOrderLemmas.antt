@@ -21,6 +21,7 @@ use Rattle.pocket_keeper.specs.Texts.{rec_row}
 use Rattle.pocket_keeper.specs.declared.rows.KeptRow.{KeptRow}
 use Rattle.pocket_keeper.proofs.Printing.{name_words}
 use Rattle.pocket_ops.specs.Lengths.{row_len}
+use Rattle.pocket_rows.proofs.Utf8Lemmas.{first_word, later_words}
 use Rattle.pocket_store.specs.Drafts.{shelf_len}
 use Rattle.pocket_store.proofs.ListLemmas.{IsIn, all_in, all_from_in, in_back, in_either, in_front, in_map_back}
 use Rattle.pocket_store.proofs.SearchLemmas.{key_of}
@@ -34,12 +35,6 @@ less_parts : (o p : Ordering) → ordering_then o p ≡ Less → (o ≡ Less) �
 less_parts Less p h = inl refl
 less_parts Equal p h = inr (refl, h)
 less_parts Greater p h = cc
-
-first_word : (b : ℕ) (bs : List ℕ) → list_all is_word (b ∷ bs) ≡ true → is_word b ≡ true
-first_word b bs h = grind (arith, nat_tests)
-
-later_words : (b : ℕ) (bs : List ℕ) → list_all is_word (b ∷ bs) ≡ true → list_all is_word bs ≡ true
-later_words b bs h = grind (arith, nat_tests)
 
 -- two names decide, whatever stands behind the slashes
 names_decide : (a b s t : List ℕ) → list_all is_word b ≡ true → IsBefore a b → IsBefore (a ++ (47 ∷ s)) (b ++ (47 ∷ t))

@@ -1,6 +1,7 @@
 -- The profile of JSON trees: what holds of every tree that is read or kept.
 use Rattle.std.specs.Prelude.{ℕ, suc, max, ◌≤◌, ◌^◌, ◌&&◌, ℤ, pos, negsuc, List, [], ◌∷◌, map, Bool, true, nat_lt, IsTrue}
 use Rattle.std.specs.List.{list_all}
+use Rattle.std.specs.Str.{is_utf8}
 use Rattle.pocket_types.specs.Order.{is_before}
 use Rattle.pocket_types.specs.declared.json.Jv.{Jv, fold-Jv}
 use Rattle.pocket_types.specs.declared.json.Jv.TheOpen as jv
@@ -56,6 +57,28 @@ small_member m = m.value
 abbrev pub numbers_small : Jv → Bool
 numbers_small = fold-Jv Bool Bool small_step small_member
 
+-- ---- texts
+
+-- one level, it being told of each value inside whether its texts are UTF-8
+abbrev pub utf8_step : Jv-F Bool Bool → Bool
+utf8_step jv.Null = true
+utf8_step (jv.Flag b) = true
+utf8_step (jv.Num n) = true
+utf8_step (jv.Text t) = is_utf8 t
+utf8_step (jv.List items) = list_all (λ fine. fine) items
+utf8_step (jv.Map members) = list_all (λ fine. fine) members
+
+abbrev pub utf8_member : Member-F Bool Bool → Bool
+utf8_member m = is_utf8 m.key && m.value
+
+-- each text and each key in the tree is UTF-8
+abbrev pub texts_utf8 : Jv → Bool
+texts_utf8 = fold-Jv Bool Bool utf8_step utf8_member
+
+-- so it is with a key and its value
+abbrev pub entry_utf8 : List ℕ × Jv → Bool
+entry_utf8 e = is_utf8 e.0 && texts_utf8 e.1
+
 -- ---- levels
 
 abbrev pub greatest : List ℕ → ℕ
@@ -82,8 +105,9 @@ levels = fold-Jv ℕ ℕ levels_step levels_member
 abbrev pub max_levels : ℕ
 max_levels = 32
 
--- a tree whose keys rise, whose numbers are small, and which has no more levels than JSON of the profile
+-- a tree whose keys rise, whose numbers are small, whose texts are UTF-8, and which has no more levels than JSON of the profile
 pub record IsProfiled (tree : Jv) : Type 0 where
   pub keys : IsTrue (keys_rise tree)
   pub numbers : IsTrue (numbers_small tree)
+  pub texts : IsTrue (texts_utf8 tree)
   pub depth : levels tree ≤ max_levels

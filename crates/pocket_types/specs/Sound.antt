@@ -3,7 +3,7 @@ use Rattle.std.specs.Prelude.{◌≡◌, ◌≢◌, ◌≤◌, ◌<◌, ◌^◌,
 use Rattle.std.specs.Str.{bytes_eq}
 use Rattle.pocket_types.specs.Kinds.{is_multiple}
 use Rattle.pocket_types.specs.Names.{is_name, is_id, IsMoment}
-use Rattle.pocket_types.specs.Profile.{keys_rise, numbers_small, levels, size_of}
+use Rattle.pocket_types.specs.Profile.{keys_rise, numbers_small, texts_utf8, levels, size_of}
 use Rattle.pocket_types.specs.declared.json.Jv.{Jv}
 use Rattle.pocket_types.specs.declared.records.Cell.{Cell}
 use Rattle.pocket_types.specs.declared.records.Cell.TheVariants as cell
@@ -87,10 +87,11 @@ HoldsFew k items = is_multiple k ≡ false → length items ≤ 1
 abbrev pub IsItem : List ℕ → Type 0
 IsItem t = IsUtf8 t × (t ≢ [])
 
--- a tree that fits into a record's row of at most 32 levels
+-- a tree of the profile that fits into a record's row of at most 32 levels
 pub record IsCellTree (tree : Jv) : Type 0 where
   pub keys : IsTrue (keys_rise tree)
   pub numbers : IsTrue (numbers_small tree)
+  pub texts : IsTrue (texts_utf8 tree)
   pub depth : levels tree < 32
 
 -- a cell is of the field's kind and multiplicity

@@ -5,4 +5,4 @@ use Rattle.pocket_ops.specs.Lengths.{held}
 use Rattle.pocket_ops.proofs.lengths.texts_len.Given as goal
 
 abbrev pub invariant-loop-i : goal.invariant-loop-i
-invariant-loop-i l = l.len ≡ held (2 + length (join_with_byte 44 (map quoted (take l.i l.texts))))
+invariant-loop-i g l = l.len ≡ held (2 + length (join_with_byte 44 (map (λ x. quoted (g.T.Item.text x)) (take l.i l.items))))

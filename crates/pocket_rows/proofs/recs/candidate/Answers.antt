@@ -5,7 +5,7 @@ use Rattle.pocket_rows.specs.Cells.{MayBeMap}
 use Rattle.pocket_rows.proofs.recs.candidate.Goals as goal
 
 pub returns-in_default-2 : goal.returns-in_default-2
-returns-in_default-2 c = no_rec-map c.args.collection.now c.args.row.now c.as_str-3.result.now c.as_str-3.ensures (rw c.in_default-2.is at c.in_ok-members.ensures)
+returns-in_default-2 c = no_rec-map c.args.collection.now c.args.row.now c.as_str-3.result.now c.requires c.as_str-3.ensures (rw c.in_default-2.is at c.in_ok-members.ensures)
 
 pub returns : goal.returns
 returns c =
