@@ -10,7 +10,7 @@ ghost use Rattle.pocket_filter.specs.Stray.{StrayMarksAreBadBytes};
 ghost use Rattle.pocket_filter.specs.Tokens.{placed, lexeme_of};
 
 use crate::tokens::{Token, TokenKind};
-use pocket_types::{FilterFault, Op};
+use pocket_types::{FilterFault, NUMBER_END, Op};
 use std::alloc::Global;
 
 /// What stands at the front of a text.
@@ -188,7 +188,7 @@ fn number_of(text: &str) -> Option<i64>
     ensures { (n : ℤ) → IsNumber text.now n → result ≡ in_range n }
 {
     match text.parse::<i64>() {
-        Ok(n) => if n.unsigned_abs() < 9_007_199_254_740_992 {
+        Ok(n) => if n.unsigned_abs() < NUMBER_END {
             Some(n)
         } else {
             None

@@ -11,7 +11,7 @@ use Rattle.pocket_filter.specs.Filters.{IsFilter, IsVerdict, IsAnswer}
 use Rattle.pocket_resolve.specs.Filters.{resolution}
 use Rattle.pocket_resolve.specs.declared.purpose.Purpose.{Purpose}
 use Rattle.pocket_resolve.specs.declared.purpose.Purpose.TheVariants.{RuleOf}
-use Rattle.pocket_store.specs.Reading.{IsResolved, IsTreeOf}
+use Rattle.pocket_store.specs.Reading.{IsResolved, IsOnlyTree}
 use Rattle.pocket_store.specs.Stores.{HoldsFilter}
 
 -- a text that is read with a fault is no filter
@@ -25,7 +25,7 @@ no_tree text f other answers tree h =
 
 -- the tree that is read is the only one
 pub one_tree : (text : List ℕ) (tree : Expr) → ((verdict : Result Expr FilterFault) → IsVerdict text verdict → IsAnswer verdict (Ok tree))
-    → IsFilter text tree → IsTreeOf text tree
+    → IsFilter text tree → IsOnlyTree text tree
 one_tree text tree answers parses = record {
   parses = parses;
   only = λ other h.
@@ -44,7 +44,7 @@ pub no_filter : (cs : List Collection) (name : Name) (text : List ℕ) → ((tre
 no_filter cs name text none h = none h.tree h.parses
 
 -- a text is a filter that resolves where its one tree does
-pub filter_by : (cs : List Collection) (name : Name) (p : Purpose) (text : List ℕ) (tree : Expr) → p ≡ RuleOf name → IsTreeOf text tree → (b : Bool)
+pub filter_by : (cs : List Collection) (name : Name) (p : Purpose) (text : List ℕ) (tree : Expr) → p ≡ RuleOf name → IsOnlyTree text tree → (b : Bool)
     → MatchBool b (IsResolved cs p tree) (¬ IsResolved cs p tree) → MatchBool b (HoldsFilter cs name text) (¬ HoldsFilter cs name text)
 filter_by cs name p text tree e is true h = record { tree = tree; resolved = h.resolved; parses = is.parses; resolves = rw e at h.resolves }
 filter_by cs name p text tree e is false h = λ g.

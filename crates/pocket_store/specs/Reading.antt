@@ -39,7 +39,7 @@ abbrev pub AddsCollection : KeptRow → List Collection → List Collection → 
 AddsCollection row old new = KeepsNext row old new ⊎ KeepsNone row old new
 
 -- the one tree of a filter's text
-pub record IsTreeOf (text : List ℕ) (tree : Expr) : Type 0 where
+pub record IsOnlyTree (text : List ℕ) (tree : Expr) : Type 0 where
   pub parses : IsFilter text tree
   pub only : (other : Expr) → IsFilter text other → other ≡ tree
 

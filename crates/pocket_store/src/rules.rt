@@ -5,7 +5,7 @@ ghost use Rattle.pocket_types.specs.declared.faults.FilterFault.TheVariants as F
 ghost use Rattle.pocket_types.specs.declared.faults.ResolveFault.TheVariants as ResolveFault;
 ghost use Rattle.pocket_filter.specs.Filters.{IsFilter};
 ghost use Rattle.pocket_resolve.specs.declared.purpose.Purpose.TheVariants.{RuleOf};
-ghost use Rattle.pocket_store.specs.Reading.{IsResolved, IsTreeOf};
+ghost use Rattle.pocket_store.specs.Reading.{IsResolved, IsOnlyTree};
 ghost use Rattle.pocket_store.specs.Stores.{HoldsFilter, Resolves, RulesResolve};
 
 use pocket_filter::parse;
@@ -13,13 +13,13 @@ use pocket_resolve::{Purpose, resolve};
 use pocket_types::{Collection, Expr, FilterFault, Name, ResolveFault, Rule, Text};
 use std::alloc::{AllocError, Global};
 
-fn wants_memory(fault: &FilterFault) -> bool
+fn parse_lacks_memory(fault: &FilterFault) -> bool
     ensures { MatchBool result (fault.now ≡ FilterFault.Memory) (fault.now ≢ FilterFault.Memory) }
 {
     matches!(fault, FilterFault::Memory)
 }
 
-fn lacks_memory(fault: ResolveFault) -> bool
+fn resolve_lacks_memory(fault: ResolveFault) -> bool
     ensures { MatchBool result (fault ≡ ResolveFault.Memory) (fault ≢ ResolveFault.Memory) }
 {
     matches!(fault, ResolveFault::Memory)
@@ -27,12 +27,12 @@ fn lacks_memory(fault: ResolveFault) -> bool
 
 /// The tree of a filter's text. None exactly where the text is no filter.
 fn tree_of(alloc: Global, text: &Text) -> Result<Option<Expr>, AllocError>
-    ensures { IfOk result (λ found. MatchOption found ((tree : Expr) → ¬ IsFilter text.now tree) (IsTreeOf text.now)) }
+    ensures { IfOk result (λ found. MatchOption found ((tree : Expr) → ¬ IsFilter text.now tree) (IsOnlyTree text.now)) }
 {
     match parse(alloc, text.as_str()) {
         Ok(tree) => Ok(Some(tree)),
         Err(fault) => {
-            if wants_memory(&fault) {
+            if parse_lacks_memory(&fault) {
                 Err(AllocError)
             } else {
                 Ok(None)
@@ -59,7 +59,7 @@ fn tree_resolves(
     match resolve(alloc, collections, purpose, tree) {
         Ok(_) => Ok(true),
         Err(fault) => {
-            if lacks_memory(fault) {
+            if resolve_lacks_memory(fault) {
                 Err(AllocError)
             } else {
                 Ok(false)

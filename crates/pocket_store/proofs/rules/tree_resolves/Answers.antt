@@ -4,4 +4,4 @@ use Rattle.pocket_store.proofs.rules.tree_resolves.Goals as goal
 pub returns : goal.returns
 returns c =
     no_resolved c.args.collections.now c.args.purpose.now c.args.tree.now c.in-Err.fault
-    (c.in-Err.ensures.fault (rw c.if-lacks_memory.false at c.lacks_memory.ensures))
+    (c.in-Err.ensures.fault (rw c.if-resolve_lacks_memory.false at c.resolve_lacks_memory.ensures))
