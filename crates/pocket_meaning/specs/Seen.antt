@@ -1,11 +1,9 @@
--- What the members, choices, shelves and scenes that the code lends stand for.
+-- What the members, choices and scenes that the code lends stand for.
 use Rattle.std.specs.Prelude.{List, map}
-use Rattle.pocket_types.specs.declared.world.Shelf.{Shelf}
-use Rattle.pocket_types.specs.declared.world.World.{World}
+use Rattle.pocket_types.specs.World.{lent_world}
 use Rattle.pocket_meaning.specs.declared.members.Member.{Member}
 use Rattle.pocket_meaning.specs.declared.members.Member.TheVariants as lent
 use Rattle.pocket_meaning.specs.declared.members.Chosen.{Chosen}
-use Rattle.pocket_meaning.specs.declared.members.LentShelf.{LentShelf}
 use Rattle.pocket_meaning.specs.declared.members.Scene.{Scene}
 use Rattle.pocket_meaning.specs.Members as member
 use Rattle.pocket_meaning.specs.Sights.{Sight, sight}
@@ -21,14 +19,6 @@ seen lent.Sent = member.Sent
 -- the choice that borrowed prefixes and members stand for
 abbrev pub choice_of : List Chosen → Choice
 choice_of = map (λ x. (x.prefix.now, seen x.member))
-
--- the shelf that a lent one stands for
-abbrev pub lent_shelf : LentShelf → Shelf
-lent_shelf s = record { collection = s.collection.now; recs = s.recs.now }
-
--- the world that lent shelves stand for
-abbrev pub lent_world : List LentShelf → World
-lent_world shelves = record { shelves = map lent_shelf shelves }
 
 -- what is seen in a scene
 abbrev pub sight_of : Scene → Sight

@@ -16,7 +16,7 @@ mod values;
 
 pub use choices::member_chosen;
 pub use meaning::holds_slow;
-pub use members::{Chosen, LentShelf, Member, Scene, lent_shelves};
+pub use members::{Chosen, Member, Scene, lent_shelves};
 pub use prefixes::{prefixes_of_any, prefixes_of_test};
 pub use related::{field_of, members_of_root, members_of_step};
 pub use values::value_under;

@@ -1,15 +1,8 @@
 ghost use Rattle.std.specs.Prelude.{◌≡◌, IfOk};
-ghost use Rattle.pocket_meaning.specs.Seen.{lent_world};
+ghost use Rattle.pocket_types.specs.World.{lent_world};
 
-use pocket_types::{Ask, Collection, Name, Prefix, Rec, World};
+use pocket_types::{Ask, Collection, LentShelf, Name, Prefix, Rec, World};
 use std::alloc::{AllocError, Global};
-
-/// A collection with its records, lent by a world or by whoever keeps them in another form.
-#[derive(Clone, Copy, Drop)]
-pub struct LentShelf<'w> {
-    pub collection: &'w Collection,
-    pub recs: &'w [Rec],
-}
 
 /// What a path leads to, lent by the world or the request.
 #[derive(Clone, Copy, Drop)]

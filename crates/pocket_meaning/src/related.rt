@@ -3,14 +3,14 @@ ghost use Rattle.std.specs.List.{list_any};
 ghost use Rattle.std.specs.Str.{bytes_eq};
 ghost use Rattle.std.specs.Option.{option_copied, option_map_or};
 ghost use Rattle.pocket_types.specs.Kinds.{target_of};
-ghost use Rattle.pocket_types.specs.World.{shelf_named, rec_of};
+ghost use Rattle.pocket_types.specs.World.{shelf_named, rec_of, lent_shelf, lent_world};
 ghost use Rattle.pocket_ops.specs.Cells.{items_of};
 ghost use Rattle.pocket_meaning.specs.Members as member;
 ghost use Rattle.pocket_meaning.specs.Related.{field_at, sent_for, sent_field, ids_of, shelf_member, held, refers, points_to, holders, step_list, root_list};
-ghost use Rattle.pocket_meaning.specs.Seen.{seen, lent_shelf, lent_world, sight_of};
+ghost use Rattle.pocket_meaning.specs.Seen.{seen, sight_of};
 
-use crate::members::{LentShelf, Member, Scene};
-use pocket_types::{Caller, Cell, Collection, Field, Id, Name, Rec, Root, Sent, Step};
+use crate::members::{Member, Scene};
+use pocket_types::{Caller, Cell, Collection, Field, Id, LentShelf, Name, Rec, Root, Sent, Step};
 use std::alloc::{AllocError, Global};
 
 /// The first field of a name, with its cell.

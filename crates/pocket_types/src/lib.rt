@@ -2,6 +2,7 @@
 #![tactic(auto)]
 
 mod boxed;
+mod deltas;
 mod exact;
 mod expr;
 mod failed;
@@ -23,6 +24,7 @@ mod values;
 mod world;
 
 pub use boxed::Boxed;
+pub use deltas::{Delta, RecChange, ShelfChange};
 pub use exact::{Exact, Faithful, copied, copied_items, is_same};
 pub use expr::{Expr, Op, Operand, Part};
 pub use failed::Failed;
@@ -38,4 +40,4 @@ pub use seq::Seq;
 pub use steps::Steps;
 pub use text::Text;
 pub use values::Value;
-pub use world::{Shelf, World};
+pub use world::{LentShelf, Shelf, World};

@@ -18,6 +18,13 @@ pub struct World {
     pub shelves: Seq<Shelf>,
 }
 
+/// A collection with its records, lent by whoever keeps them.
+#[derive(Clone, Copy, Drop)]
+pub struct LentShelf<'w> {
+    pub collection: &'w Collection,
+    pub recs: &'w [Rec],
+}
+
 impl World {
     ghost use Rattle.std.specs.Option.{option_copied};
     ghost use Rattle.pocket_types.specs.World.{shelf_named};

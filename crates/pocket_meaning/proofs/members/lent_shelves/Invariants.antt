@@ -1,5 +1,5 @@
 use Rattle.std.proofs.Common.{◌≡◌, map, take}
-use Rattle.pocket_meaning.specs.Seen.{lent_shelf}
+use Rattle.pocket_types.specs.World.{lent_shelf}
 use Rattle.pocket_meaning.proofs.members.lent_shelves.Given as goal
 
 abbrev pub invariant-loop-shelf : goal.invariant-loop-shelf

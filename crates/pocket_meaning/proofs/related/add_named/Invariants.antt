@@ -1,7 +1,8 @@
 use Rattle.std.proofs.Common.{◌≡◌, ◌++◌, map, take}
 use Rattle.std.specs.Prelude.{filter_map}
 use Rattle.pocket_meaning.specs.Related.{shelf_member}
-use Rattle.pocket_meaning.specs.Seen.{seen, lent_shelf}
+use Rattle.pocket_types.specs.World.{lent_shelf}
+use Rattle.pocket_meaning.specs.Seen.{seen}
 use Rattle.pocket_meaning.proofs.related.add_named.Given as goal
 
 abbrev pub invariant-loop-id : goal.invariant-loop-id
