@@ -1,0 +1,17 @@
+pub mod KeyLemmas
+pub mod PlaceLemmas
+pub mod ChangeLemmas
+pub mod WorldLemmas
+pub mod InverseLemmas
+pub mod DrawerLemmas
+pub mod RoomLemmas
+pub mod PartLemmas
+pub mod TableLemmas
+pub mod ShelfLemmas
+pub mod StepLemmas
+pub mod ReadLemmas
+pub mod LawLemmas
+pub mod FollowingLemmas
+pub mod FrontLemmas
+pub mod TallyLemmas
+pub mod BalanceLemmas

@@ -1,0 +1,14 @@
+use Rattle.std.proofs.Common.{rules}
+use Rattle.std.proofs.lemmas.Fn.{always_returns_same}
+use Rattle.std.specs.Cmp.Lexicographic.{slice_cmp}
+use Rattle.std.specs.Ordering.{nat_cmp}
+use Rattle.pocket_tables.specs.Worlds.{id_of}
+use Rattle.pocket_tables.proofs.PlaceLemmas.{place_found}
+use Rattle.pocket_tables.proofs.finding.place_of_rec.Goals as goal
+
+-- the closure compares the ids of records
+pub returns : goal.returns
+returns c =
+    let search_made = c.binary_search_by.ensures in
+    let by_key = search_made.position (λ x. slice_cmp nat_cmp (id_of x) c.args.id) (always_returns_same _ _ _ (λ a r g called. search rules)) in
+    place_found id_of c.args.id c.args.recs.now c.binary_search_by.result c.requires search_made.bound by_key

@@ -1,0 +1,14 @@
+pub mod Deltas
+pub mod Drawers
+pub mod Following
+pub mod Fronts
+pub mod Inside
+pub mod Kept
+pub mod Keyed
+pub mod Laws
+pub mod Parts
+pub mod Places
+pub mod Reads
+pub mod Swaps
+pub mod Tallies
+pub mod Worlds
