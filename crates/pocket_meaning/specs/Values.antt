@@ -1,5 +1,5 @@
 -- The values of cells, fields, items and pairs.
-use Rattle.std.specs.Prelude.{ℕ, List, codes, find, is_some, if◌then◌else◌}
+use Rattle.std.specs.Prelude.{ℕ, List, Option, codes, find, is_some, if◌then◌else◌}
 use Rattle.std.specs.Option.{option_map_or}
 use Rattle.std.specs.Str.{bytes_eq}
 use Rattle.pocket_types.specs.declared.names.Name.{Name}
@@ -28,14 +28,18 @@ modified modifier.Length (field, cell) = count_value cell
 modified modifier.Lower (field, cell) = lowered (cell_value field cell)
 modified _ (field, cell) = cell_value field cell
 
--- a field of a record, one of its own or one that every record has; Nothing where its collection lacks it
-abbrev pub field_value : Collection → Rec → Name → Modifier → Value
-field_value c r name modifier =
+-- a field of a record: one that every record has, or one of its own, with its cell where the record has it; else Nothing
+abbrev pub value_among : Collection → Rec → Name → Option (Field × Cell) → Modifier → Value
+value_among c r name own modifier =
     if bytes_eq name (codes "id") then value.Text r.id
     else (if bytes_eq name (codes "created") then value.Text (date_text r.created)
     else (if bytes_eq name (codes "updated") then value.Text (date_text r.updated)
     else (if bytes_eq name (codes "collectionName") then value.Text c.name
-    else option_map_or (modified modifier) (field_at c r name) value.Nothing)))
+    else option_map_or (modified modifier) own value.Nothing)))
+
+-- a field of a record; Nothing where its collection lacks it
+abbrev pub field_value : Collection → Rec → Name → Modifier → Value
+field_value c r name modifier = value_among c r name (field_at c r name) modifier
 
 -- a field of a member; Nothing of all but records
 abbrev pub member_value : Member → Name → Modifier → Value

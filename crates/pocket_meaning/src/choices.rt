@@ -1,9 +1,9 @@
 ghost use Rattle.std.specs.Prelude.{◌≡◌, IfOk, map, ◌++◌, [], ◌∷◌};
 ghost use Rattle.pocket_meaning.specs.Choices.{chosen, related, or_nobody};
-ghost use Rattle.pocket_meaning.specs.Seen.{seen, choice_of, sight_of};
+ghost use Rattle.pocket_meaning.specs.Seen.{seen, choice_of};
 
-use crate::members::{Chosen, Member, Scene};
-use crate::related::{members_of_root, members_of_step};
+use crate::members::{Chosen, Member};
+use crate::sees::Sees;
 use pocket_types::{Prefix, Root, Step};
 use std::alloc::{AllocError, Global};
 
@@ -24,31 +24,31 @@ pub fn member_chosen<'w>(choice: &[Chosen<'_, 'w>], root: &Root, steps: &[Step])
 }
 
 /// The list that a prefix chooses from.
-fn members_related<'w>(
+fn members_related<'w, S: Sees>(
     alloc: Global,
-    scene: &Scene<'_, 'w>,
+    scene: &'w S,
     choice: &[Chosen<'_, 'w>],
     prefix: &Prefix,
 ) -> Result<Vec<Member<'w>>, AllocError>
-    ensures { IfOk result (λ v. map seen v.items ≡ related (sight_of scene.now) (choice_of choice.now) prefix.now) }
+    ensures { IfOk result (λ v. map seen v.items ≡ related (S.all_seen scene.now) (choice_of choice.now) prefix.now) }
 {
     match prefix.steps.as_slice() {
-        [] => Ok(members_of_root(alloc, scene, &prefix.root)?),
+        [] => scene.root_members(alloc, &prefix.root),
         [before @ .., last] => {
             let parent = member_chosen(choice, &prefix.root, before);
-            Ok(members_of_step(alloc, scene, last, parent)?)
+            scene.step_members(alloc, last, parent)
         }
     }
 }
 
 /// What a prefix may choose: a member of its list, or nobody where that is empty.
-pub fn members_to_choose<'w>(
+pub fn members_to_choose<'w, S: Sees>(
     alloc: Global,
-    scene: &Scene<'_, 'w>,
+    scene: &'w S,
     choice: &[Chosen<'_, 'w>],
     prefix: &Prefix,
 ) -> Result<Vec<Member<'w>>, AllocError>
-    ensures { IfOk result (λ v. map seen v.items ≡ or_nobody (related (sight_of scene.now) (choice_of choice.now) prefix.now)) }
+    ensures { IfOk result (λ v. map seen v.items ≡ or_nobody (related (S.all_seen scene.now) (choice_of choice.now) prefix.now)) }
 {
     let mut members = members_related(alloc, scene, choice, prefix)?;
     if members.is_empty() {

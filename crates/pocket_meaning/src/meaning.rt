@@ -1,27 +1,28 @@
 ghost use Rattle.std.specs.Prelude.{◌≡◌, IfOk};
 ghost use Rattle.std.specs.List.{list_any, list_all};
 ghost use Rattle.pocket_meaning.specs.Choices.{chosen, choices_from};
-ghost use Rattle.pocket_meaning.specs.Meaning.{test_under, test_always, true_under, holds};
-ghost use Rattle.pocket_meaning.specs.Seen.{choice_of, sight_of};
+ghost use Rattle.pocket_meaning.specs.Meaning.{test_under, test_always, true_under, true_in, holds};
+ghost use Rattle.pocket_meaning.specs.Seen.{choice_of};
 
 use crate::choices::{longer, members_to_choose};
 use crate::members::{Chosen, Scene, lent_shelves};
 use crate::prefixes::{prefixes_of_any, prefixes_of_test};
+use crate::sees::Sees;
 use crate::values::value_under;
 use pocket_ops::compare;
 use pocket_types::{Ask, Leaf, Name, Op, Prefix, Rec, Resolved, World};
 use std::alloc::{AllocError, Global};
 
 /// A comparison under a choice.
-fn test(
+fn test<S: Sees>(
     alloc: Global,
-    scene: &Scene<'_, '_>,
+    scene: &S,
     choice: &[Chosen<'_, '_>],
     left: &Leaf,
     op: Op,
     right: &Leaf,
 ) -> Result<bool, AllocError>
-    ensures { IfOk result (λ b. b ≡ test_under (sight_of scene.now) (chosen (choice_of choice.now)) left.now op right.now) }
+    ensures { IfOk result (λ b. b ≡ test_under (S.all_seen scene.now) (chosen (choice_of choice.now)) left.now op right.now) }
 {
     let left = value_under(alloc, scene, choice, left)?;
     let right = value_under(alloc, scene, choice, right)?;
@@ -29,16 +30,16 @@ fn test(
 }
 
 /// A comparison under every choice that goes on from this one.
-fn test_each<'p, 'w>(
+fn test_each<'p, 'w, S: Sees>(
     alloc: Global,
-    scene: &Scene<'_, 'w>,
+    scene: &'w S,
     prefixes: &'p [Prefix],
     choice: &[Chosen<'p, 'w>],
     left: &Leaf,
     op: Op,
     right: &Leaf,
 ) -> Result<bool, AllocError>
-    ensures { IfOk result (λ b. b ≡ list_all (λ c. test_under (sight_of scene.now) (chosen c) left.now op right.now) (choices_from (sight_of scene.now) prefixes.entry.now (choice_of choice.now))) }
+    ensures { IfOk result (λ b. b ≡ list_all (λ c. test_under (S.all_seen scene.now) (chosen c) left.now op right.now) (choices_from (S.all_seen scene.now) prefixes.entry.now (choice_of choice.now))) }
 {
     match prefixes {
         [] => test(alloc, scene, choice, left, op, right),
@@ -56,27 +57,27 @@ fn test_each<'p, 'w>(
 }
 
 /// A comparison under every choice of its own two sides' prefixes.
-fn is_always(
+fn is_always<S: Sees>(
     alloc: Global,
-    scene: &Scene<'_, '_>,
+    scene: &S,
     left: &Leaf,
     op: Op,
     right: &Leaf,
 ) -> Result<bool, AllocError>
-    ensures { IfOk result (λ b. b ≡ test_always (sight_of scene.now) left.now op right.now) }
+    ensures { IfOk result (λ b. b ≡ test_always (S.all_seen scene.now) left.now op right.now) }
 {
     let prefixes = prefixes_of_test(alloc, left, right)?;
     test_each(alloc, scene, prefixes.as_slice(), &[], left, op, right)
 }
 
 /// A filter under a choice.
-fn is_true(
+fn is_true<S: Sees>(
     alloc: Global,
-    scene: &Scene<'_, '_>,
+    scene: &S,
     choice: &[Chosen<'_, '_>],
     filter: &Resolved,
 ) -> Result<bool, AllocError>
-    ensures { IfOk result (λ b. b ≡ true_under (sight_of scene.now) (chosen (choice_of choice.now)) filter.now) }
+    ensures { IfOk result (λ b. b ≡ true_under (S.all_seen scene.now) (chosen (choice_of choice.now)) filter.now) }
 {
     match filter {
         Resolved::Test {
@@ -101,14 +102,14 @@ fn is_true(
 }
 
 /// Whether a choice that goes on from this one makes the filter true.
-fn is_true_for_some<'p, 'w>(
+fn is_true_for_some<'p, 'w, S: Sees>(
     alloc: Global,
-    scene: &Scene<'_, 'w>,
+    scene: &'w S,
     prefixes: &'p [Prefix],
     choice: &[Chosen<'p, 'w>],
     filter: &Resolved,
 ) -> Result<bool, AllocError>
-    ensures { IfOk result (λ b. b ≡ list_any (λ c. true_under (sight_of scene.now) (chosen c) filter.now) (choices_from (sight_of scene.now) prefixes.entry.now (choice_of choice.now))) }
+    ensures { IfOk result (λ b. b ≡ list_any (λ c. true_under (S.all_seen scene.now) (chosen c) filter.now) (choices_from (S.all_seen scene.now) prefixes.entry.now (choice_of choice.now))) }
 {
     match prefixes {
         [] => is_true(alloc, scene, choice, filter),
@@ -123,6 +124,14 @@ fn is_true_for_some<'p, 'w>(
             Ok(false)
         }
     }
+}
+
+/// Whether a filter is true in what is seen.
+pub fn is_true_in<S: Sees>(alloc: Global, scene: &S, filter: &Resolved) -> Result<bool, AllocError>
+    ensures { IfOk result (λ b. b ≡ true_in (S.all_seen scene.now) filter.now) }
+{
+    let prefixes = prefixes_of_any(alloc, filter)?;
+    is_true_for_some(alloc, scene, prefixes.as_slice(), &[], filter)
 }
 
 /// Whether a filter holds of a record, for a request in a world. The record need not stand in the world.
@@ -147,6 +156,5 @@ pub fn holds_slow(
         home,
         rec,
     };
-    let prefixes = prefixes_of_any(alloc, filter)?;
-    is_true_for_some(alloc, &scene, prefixes.as_slice(), &[], filter)
+    is_true_in(alloc, &scene, filter)
 }

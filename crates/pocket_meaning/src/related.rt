@@ -62,7 +62,7 @@ fn field_named<'a>(fields: &'a [Field], name: &Name) -> Option<&'a Field>
 }
 
 /// The shelf of a collection.
-fn shelf_in<'a>(shelves: &[LentShelf<'a>], name: &Name) -> Option<LentShelf<'a>>
+pub fn shelf_in<'a>(shelves: &[LentShelf<'a>], name: &Name) -> Option<LentShelf<'a>>
     ensures { option_map lent_shelf result ≡ shelf_named name.now (lent_world shelves.now).shelves }
 {
     match shelves {
@@ -95,7 +95,7 @@ pub fn sent_field_of<'a>(scene: &Scene<'_, 'a>, name: &Name) -> Option<(&'a Fiel
 }
 
 /// Adds the items of a cell.
-fn add_items<'a>(members: &mut Vec<Member<'a>>, cell: &'a Cell) -> Result<(), AllocError>
+pub fn add_items<'a>(members: &mut Vec<Member<'a>>, cell: &'a Cell) -> Result<(), AllocError>
     ensures { IfOk result (λ _. map seen members.new.items ≡ map seen members.old.items ++ map member.Item (items_of cell.now)) }
 {
     match cell {
@@ -141,7 +141,7 @@ fn add_named<'a>(
 }
 
 /// The ids that a cell holds.
-fn ids_in(cell: &Cell) -> &[Id]
+pub fn ids_in(cell: &Cell) -> &[Id]
     ensures { result.now ≡ ids_of cell.now }
 {
     match cell {
@@ -185,7 +185,7 @@ fn has_id(cell: &Cell, id: Id) -> bool
 }
 
 /// Whether a relation to a collection holds an id.
-fn does_refer(field: &Field, cell: &Cell, name: &Name, id: Id) -> bool
+pub fn does_refer(field: &Field, cell: &Cell, name: &Name, id: Id) -> bool
     ensures { result ≡ refers name.now id (field.now, cell.now) }
 {
     let to_it = is_relation_to(field, name);

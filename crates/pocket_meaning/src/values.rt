@@ -1,18 +1,18 @@
-ghost use Rattle.std.specs.Prelude.{◌≡◌, IfOk, find, is_some, codes};
+ghost use Rattle.std.specs.Prelude.{◌≡◌, IfOk, find, is_some, codes, option_map};
 ghost use Rattle.std.specs.Option.{option_copied, option_map_or};
 ghost use Rattle.std.specs.Str.{bytes_eq};
 ghost use Rattle.pocket_types.specs.declared.values.Value.TheVariants as value;
 ghost use Rattle.pocket_ops.specs.Cells.{lowered};
 ghost use Rattle.pocket_ops.specs.Dates.{date_text as text_of_moment};
 ghost use Rattle.pocket_meaning.specs.Choices.{chosen};
-ghost use Rattle.pocket_meaning.specs.Related.{field_at};
-ghost use Rattle.pocket_meaning.specs.Seen.{seen, choice_of, sight_of};
+ghost use Rattle.pocket_meaning.specs.Seen.{seen, choice_of};
 ghost use Rattle.pocket_meaning.specs.Sights.{sent_value, value_of};
-ghost use Rattle.pocket_meaning.specs.Values.{modified, field_value, member_value, item_value, context_text, method_text, pair_value};
+ghost use Rattle.pocket_meaning.specs.Values.{modified, value_among, member_value, item_value, context_text, method_text, pair_value};
 
 use crate::choices::member_chosen;
-use crate::members::{Chosen, Member, Scene};
-use crate::related::{field_of, sent_field_of, sent_of};
+use crate::members::{Chosen, Member};
+use crate::related::{field_of, sent_of};
+use crate::sees::Sees;
 use pocket_ops::{cell_value, count_value, date_text, lowered_value, macro_value};
 use pocket_types::{
     Cell, Collection, Context, Field, Leaf, Method, Modifier, Moment, Name, Pair, Prefix, Rec,
@@ -53,42 +53,42 @@ fn modified_value(
     }
 }
 
-/// A field of a record's own, under a modifier.
-fn own_value(
+/// A field that was found or not, under a modifier.
+fn found_value(
     alloc: Global,
-    collection: &Collection,
-    rec: &Rec,
-    name: &Name,
+    found: Option<(&Field, &Cell)>,
     modifier: Modifier,
 ) -> Result<Value, AllocError>
-    ensures { IfOk result (λ v. v ≡ option_map_or (modified modifier) (field_at collection.now rec.now name.now) value.Nothing) }
+    ensures { IfOk result (λ v. v ≡ option_map_or (modified modifier) (option_map (λ x. (x.0.now, x.1.now)) found.entry) value.Nothing) }
 {
-    match field_of(collection, rec, name) {
+    match found {
         Some((field, cell)) => modified_value(alloc, modifier, field, cell),
         None => Ok(Value::Nothing),
     }
 }
 
-/// A field of a record, one of its own or one that every record has.
-fn field_value_of(
+/// A field of a record: one that every record has, or one of its own, which was found there or not.
+pub fn value_of_field(
     alloc: Global,
     collection: &Collection,
     rec: &Rec,
     name: &Name,
+    found: Option<(&Field, &Cell)>,
     modifier: Modifier,
 ) -> Result<Value, AllocError>
-    ensures { IfOk result (λ v. v ≡ field_value collection.now rec.now name.now modifier) }
+    ensures { IfOk result (λ v. v ≡ value_among collection.now rec.now name.now (option_map (λ x. (x.0.now, x.1.now)) found.entry) modifier) }
 {
     match name.as_str() {
         "id" => text_value(alloc, rec.id.as_str()),
         "created" => moment_value(alloc, rec.created),
         "updated" => moment_value(alloc, rec.updated),
         "collectionName" => text_value(alloc, collection.name.as_str()),
-        _ => own_value(alloc, collection, rec, name, modifier),
+        _ => found_value(alloc, found, modifier),
     }
 }
 
-fn member_value_of(
+/// A field of a member, under a modifier.
+pub fn member_value_of(
     alloc: Global,
     member: Member<'_>,
     name: &Name,
@@ -97,7 +97,10 @@ fn member_value_of(
     ensures { IfOk result (λ v. v ≡ member_value (seen member.entry) name.now modifier) }
 {
     match member {
-        Member::Record(collection, rec) => field_value_of(alloc, collection, rec, name, modifier),
+        Member::Record(collection, rec) => {
+            let found = field_of(collection, rec, name);
+            value_of_field(alloc, collection, rec, name, found, modifier)
+        }
         _ => Ok(Value::Nothing),
     }
 }
@@ -165,33 +168,18 @@ fn pair_value_of(
     }
 }
 
-/// The value of a sent field, under a modifier.
-fn sent_cell_value(
-    alloc: Global,
-    scene: &Scene<'_, '_>,
-    name: &Name,
-    modifier: Modifier,
-) -> Result<Value, AllocError>
-    ensures { IfOk result (λ v. v ≡ option_map_or (modified modifier) ((sight_of scene.now).sent name.now) value.Nothing) }
-{
-    match sent_field_of(scene, name) {
-        Some((field, cell)) => modified_value(alloc, modifier, field, cell),
-        None => Ok(Value::Nothing),
-    }
-}
-
 /// A sent field, under a modifier.
-fn sent_value_of(
+fn sent_value_of<S: Sees>(
     alloc: Global,
-    scene: &Scene<'_, '_>,
+    scene: &S,
     name: &Name,
     modifier: Modifier,
 ) -> Result<Value, AllocError>
-    ensures { IfOk result (λ v. v ≡ sent_value (sight_of scene.now) name.now modifier) }
+    ensures { IfOk result (λ v. v ≡ sent_value (S.all_seen scene.now) name.now modifier) }
 {
     match modifier {
-        Modifier::Isset => Ok(Value::Flag(sent_of(scene.ask.body.as_slice(), name).is_some())),
-        _ => sent_cell_value(alloc, scene, name, modifier),
+        Modifier::Isset => Ok(Value::Flag(sent_of(scene.ask().body.as_slice(), name).is_some())),
+        _ => found_value(alloc, scene.sent_field(name), modifier),
     }
 }
 
@@ -202,13 +190,13 @@ fn member_at<'w>(choice: &[Chosen<'_, 'w>], prefix: &Prefix) -> Member<'w>
 }
 
 /// The value of a side of a comparison under a choice.
-pub fn value_under(
+pub fn value_under<S: Sees>(
     alloc: Global,
-    scene: &Scene<'_, '_>,
+    scene: &S,
     choice: &[Chosen<'_, '_>],
     side: &Leaf,
 ) -> Result<Value, AllocError>
-    ensures { IfOk result (λ v. v ≡ value_of (sight_of scene.now) (chosen (choice_of choice.now)) side.now) }
+    ensures { IfOk result (λ v. v ≡ value_of (S.all_seen scene.now) (chosen (choice_of choice.now)) side.now) }
 {
     match side {
         Leaf::Fixed(value) => copied(value),
@@ -218,27 +206,27 @@ pub fn value_under(
             modifier,
         } => {
             let member = member_at(choice, prefix);
-            member_value_of(alloc, member, field, *modifier)
+            scene.field_value(alloc, member, field, *modifier)
         }
         Leaf::ItemOf(prefix) => {
             let member = member_at(choice, prefix);
             item_value_of(alloc, member)
         }
-        Leaf::Context => text_value(alloc, context_name(scene.ask.context)),
-        Leaf::Method => text_value(alloc, method_name(scene.ask.method)),
+        Leaf::Context => text_value(alloc, context_name(scene.ask().context)),
+        Leaf::Method => text_value(alloc, method_name(scene.ask().method)),
         Leaf::Header(name, modifier) => pair_value_of(
             alloc,
-            scene.ask.headers.as_slice(),
+            scene.ask().headers.as_slice(),
             name,
             *modifier,
         ),
         Leaf::Query(name, modifier) => pair_value_of(
             alloc,
-            scene.ask.query.as_slice(),
+            scene.ask().query.as_slice(),
             name,
             *modifier,
         ),
         Leaf::Body(field, modifier) => sent_value_of(alloc, scene, field, *modifier),
-        Leaf::Macro(which) => macro_value(alloc, *which, scene.ask.moment),
+        Leaf::Macro(which) => macro_value(alloc, *which, scene.ask().moment),
     }
 }

@@ -6,4 +6,4 @@ pub returns : goal.returns
 unfolding Rattle.pocket_meaning.specs.Meaning.holds
 returns c =
     let shelves = ap (λ (w : World). w.shelves) c.in_ok-shelves.ensures in
-    rw (c.as_slice-2.ensures.value, c.in_ok-prefixes.ensures, c.as_slice.ensures.value, shelves) at c.is_true_for_some.ensures
+    rw (c.as_slice.ensures.value, shelves) at c.is_true_in.ensures

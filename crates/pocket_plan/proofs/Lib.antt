@@ -1,0 +1,4 @@
+pub mod Filtered
+pub mod Opening
+pub mod Shelves
+pub mod Carried

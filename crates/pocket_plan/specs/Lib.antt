@@ -1,0 +1,4 @@
+pub mod Cutting
+pub mod Truth
+pub mod Guarding
+pub mod Guarded
