@@ -1,6 +1,6 @@
 // Collections and records that are built in code, so that what is printed is compared with values that weren't read from a text.
 use crate::rows::{add_row, row_of_line};
-use pocket_keeper::{read_collection, row_of_collection, row_of_rec, row_of_token};
+use pocket_keeper::{KeptRow, read_collection, row_of_collection, row_of_rec, row_of_token};
 use pocket_ops::{has_own_names, rec_jv, row_len};
 use pocket_types::{
     Cell, Collection, Field, Id, Jv, Kind, Member, Moment, Name, Rec, Rule, Seq, Text,
@@ -156,19 +156,37 @@ fn cell(alloc: Global, kind: &Kind, word: &str) -> Result<Cell, AllocError> {
     })
 }
 
+/// The cells of words, with bars between them.
+fn cells(alloc: Global, fields: &[Field], words: &str) -> Result<Seq<Cell>, AllocError> {
+    let mut cells = Seq::new(alloc);
+    for (field, word) in fields.iter().zip(words.split('|')) {
+        cells.push(cell(alloc, &field.kind, word)?)?;
+    }
+    Ok(cells)
+}
+
 /// A record of an id and the cells of words, with bars between them. It was made at the begin of 2024, and changed at this moment.
 fn rec(alloc: Global, collection: &Collection, text: &str, updated: i64) -> Result<Rec, Fail> {
     let (id, words) = text.split_once('|').unwrap_or((text, ""));
-    let mut cells = Seq::new(alloc);
-    for (field, word) in collection.fields.as_slice().iter().zip(words.split('|')) {
-        cells.push(cell(alloc, &field.kind, word)?)?;
-    }
+    let id = Id::read(id).ok_or("no id")?;
+    let created = Moment::of_millis(1_704_067_200_000).ok_or("no moment")?;
+    let updated = Moment::of_millis(updated).ok_or("no moment")?;
     Ok(Rec {
-        id: Id::read(id).ok_or("no id")?,
-        created: Moment::of_millis(1_704_067_200_000).ok_or("no moment")?,
-        updated: Moment::of_millis(updated).ok_or("no moment")?,
-        cells,
+        id,
+        created,
+        updated,
+        cells: cells(alloc, collection.fields.as_slice(), words)?,
     })
+}
+
+/// What a record shows with its hidden fields, or without them.
+fn shown(
+    alloc: Global,
+    collection: &Collection,
+    rec: &Rec,
+    hidden: bool,
+) -> Result<Text, AllocError> {
+    rec_jv(alloc, collection, rec, hidden)?.print(alloc)
 }
 
 /// Adds what a record shows to the administrator, or to others.
@@ -179,9 +197,8 @@ fn add_tree(
     rec: &Rec,
     hidden: bool,
 ) -> Result<(), AllocError> {
-    let tree = rec_jv(alloc, collection, rec, hidden)?;
     lines.push_str(if hidden { "admin " } else { "others " })?;
-    lines.push_str(tree.print(alloc)?.as_str())?;
+    lines.push_str(shown(alloc, collection, rec, hidden)?.as_str())?;
     lines.push('\n')
 }
 
@@ -216,58 +233,89 @@ fn told(
     Ok(lines)
 }
 
-// All types of fields, most with options of their own.
-#[test]
-fn kinds_are_printed(rt: HostRuntime) -> Result<(), Fail> {
-    let alloc = rt.alloc();
+/// All types of fields, most with options of their own.
+fn kinds(alloc: Global) -> Result<Collection, Fail> {
     let fields =
         "Text required unique,number hidden,flag,date unique,select unique,json required,zed unique";
     let mut kinds = collection(alloc, "kinds", fields)?;
     kinds.delete_rule = Rule::Free;
+    Ok(kinds)
+}
+
+/// What is told of the kinds and two records.
+fn told_kinds(alloc: Global) -> Result<String, Fail> {
     let recs = [
         "kind00000000001|\"\\/\u{8}\t\n\u{c}\r\u{1}\u{1f}€|-7|true|||tree|",
         "kind00000000002||0|false|-62135596800000|y\"z|null|user00000000ann",
     ];
-    let lines = told(alloc, &kinds, 1_704_067_200_000, recs)?;
-    assert_eq!(rt; lines.as_str(), told_of_kinds());
+    told(alloc, &kinds(alloc)?, 1_704_067_200_000, recs)
+}
+
+#[test]
+fn kinds_are_printed(rt: HostRuntime) -> Result<(), Fail> {
+    assert_eq!(rt; told_kinds(rt.alloc())?.as_str(), kinds_as_printed());
     Ok(())
 }
 
-// Fields of several items and of no bounds, and each sort of rule.
-#[test]
-fn lists_are_printed(rt: HostRuntime) -> Result<(), Fail> {
-    let alloc = rt.alloc();
-    let filter = Text::from_str(alloc, "team = @request.auth.team || id = @request.auth.id")?;
-    let mut lists = collection(
-        alloc,
-        "lists",
-        "tags required,members,count hidden,due,title",
-    )?;
+/// Fields of several items and of no bounds, and each sort of rule.
+fn lists(alloc: Global) -> Result<Collection, Fail> {
+    let fields = "tags required,members,count hidden,due,title";
+    let mut lists = collection(alloc, "lists", fields)?;
     lists.is_auth = true;
-    lists.view_rule = Rule::Filter(filter);
+    lists.view_rule = Rule::Filter(Text::from_str(
+        alloc,
+        "team = @request.auth.team || id = @request.auth.id",
+    )?);
+    Ok(lists)
+}
+
+/// What is told of the lists and two records.
+fn told_lists(alloc: Global) -> Result<String, Fail> {
     let recs = [
         "list00000000001|y\"z x|user00000000bob user00000000ann|9007199254740991|253402300799999|Fix login",
         "list00000000002|||0||",
     ];
-    let lines = told(alloc, &lists, 1_714_694_400_000, recs)?;
-    assert_eq!(rt; lines.as_str(), told_of_lists());
-    Ok(())
+    told(alloc, &lists(alloc)?, 1_714_694_400_000, recs)
 }
 
 #[test]
-fn tokens_and_trees_are_printed(rt: HostRuntime) -> Result<(), Fail> {
-    let alloc = rt.alloc();
+fn lists_are_printed(rt: HostRuntime) -> Result<(), Fail> {
+    assert_eq!(rt; told_lists(rt.alloc())?.as_str(), lists_as_printed());
+    Ok(())
+}
+
+/// The row of a token that never ends.
+fn token_row(alloc: Global) -> Result<KeptRow, Fail> {
     let id = Id::read("user00000000ann").ok_or("no id")?;
     let until = Moment::of_millis(253_402_300_799_999).ok_or("no moment")?;
     let text = Text::from_str(alloc, "aaaaaaaaaaaaaaaaaaaaaaaaaaaaaaaa")?;
-    let row = row_of_token(alloc, &text, &Name::read(alloc, "users")?, id, until)?;
+    let users = Name::read(alloc, "users")?;
+    Ok(row_of_token(alloc, &text, &users, id, until)?)
+}
+
+#[test]
+fn tokens_are_printed(rt: HostRuntime) -> Result<(), Fail> {
+    let alloc = rt.alloc();
     let mut lines = String::new(alloc);
-    add_row(&mut lines, &row)?;
-    assert_eq!(rt; lines.as_str(), told_of_token());
+    add_row(&mut lines, &token_row(alloc)?)?;
+    assert_eq!(rt; lines.as_str(), token_as_printed());
+    Ok(())
+}
+
+/// A map with every sort of value, and each character that is escaped.
+fn tree(alloc: Global) -> Result<Jv, AllocError> {
     let items = list(alloc, -12, "a\"\\/\u{8}\u{c}\n\r\t\u{1}\u{1f}\u{7f}é😀")?;
-    let tree = Jv::Map(Seq::from_vec(vec![in alloc; member(alloc, "k", items)?]?));
+    Ok(Jv::Map(Seq::from_vec(vec![in alloc; member(alloc, "k", items)?]?)))
+}
+
+fn tree_text(alloc: Global) -> Result<Text, AllocError> {
+    tree(alloc)?.print(alloc)
+}
+
+#[test]
+fn trees_are_printed(rt: HostRuntime) -> Result<(), Fail> {
     assert_eq!(rt;
-        tree.print(alloc)?.as_str(),
+        tree_text(rt.alloc())?.as_str(),
         "{\"k\":[null,true,false,-12,\"a\\\"\\\\/\\b\\f\\n\\r\\t\\u0001\\u001f\u{7f}é😀\",{}]}"
     );
     Ok(())
@@ -283,12 +331,18 @@ fn has_parts(c: &Collection) -> bool {
     kind && plain && names && !c.is_auth && c.fields.len() == 1
 }
 
+/// Whether a row keeps a plain collection with these parts.
+fn keeps_parts(alloc: Global, row: &KeptRow) -> Result<bool, AllocError> {
+    match read_collection(alloc, row)? {
+        Some(collection) => Ok(has_parts(&collection)),
+        None => Ok(false),
+    }
+}
+
 #[test]
 fn a_plain_collection_has_its_parts(rt: HostRuntime) -> Result<(), Fail> {
-    let alloc = rt.alloc();
-    let row = row_of_line(alloc, plain())?;
-    let found = read_collection(alloc, &row)?.ok_or("not read")?;
-    assert!(rt; has_parts(&found));
+    let row = row_of_line(rt.alloc(), plain())?;
+    assert!(rt; keeps_parts(rt.alloc(), &row)?);
     Ok(())
 }
 
@@ -297,8 +351,8 @@ fn plain() -> &'static str {
     r##"c/notes {"createRule":"","deleteRule":"","fields":[{"hidden":false,"max":5000,"min":0,"name":"text","required":false,"type":"text","unique":false}],"listRule":"","name":"notes","type":"base","updateRule":"","viewRule":""}"##
 }
 
-/// What is told of the kinds.
-fn told_of_kinds() -> &'static str {
+/// The kinds and two records as they are printed.
+fn kinds_as_printed() -> &'static str {
     r##"c/kinds {"createRule":"","deleteRule":"","fields":[{"hidden":false,"max":10,"min":1,"name":"Text","required":true,"type":"text","unique":true},{"hidden":true,"max":null,"min":-5,"name":"number","required":false,"type":"number","unique":false},{"hidden":false,"name":"flag","required":false,"type":"bool"},{"hidden":false,"max":"9999-12-31 23:59:59.999Z","min":"0001-01-01 00:00:00.000Z","name":"date","required":false,"type":"date","unique":true},{"hidden":false,"maxSelect":1,"name":"select","required":false,"type":"select","unique":true,"values":["x","y\"z"]},{"hidden":false,"maxSize":100,"name":"json","required":true,"type":"json"},{"cascadeDelete":true,"collection":"users","hidden":false,"maxSelect":1,"name":"zed","required":false,"type":"relation","unique":true}],"listRule":null,"name":"kinds","type":"base","updateRule":null,"viewRule":null}
 r/kinds/kind00000000001 {"Text":"\"\\/\b\t\n\f\r\u0001\u001f€","created":"2024-01-01 00:00:00.000Z","date":"","flag":true,"json":{"k\t":[null,true,false,-3,"q\"é",{}],"z":[]},"number":-7,"select":"","updated":"2024-01-01 00:00:00.000Z","zed":""}
 224 bytes
@@ -311,8 +365,8 @@ others {"Text":"","collectionName":"kinds","created":"2024-01-01 00:00:00.000Z",
 "##
 }
 
-/// What is told of the lists.
-fn told_of_lists() -> &'static str {
+/// The lists and two records as they are printed.
+fn lists_as_printed() -> &'static str {
     r##"c/lists {"createRule":"","deleteRule":null,"fields":[{"hidden":false,"maxSelect":3,"name":"tags","required":true,"type":"select","values":["x","y\"z"]},{"cascadeDelete":false,"collection":"users","hidden":false,"maxSelect":50,"name":"members","required":false,"type":"relation"},{"hidden":true,"max":null,"min":null,"name":"count","required":false,"type":"number","unique":false},{"hidden":false,"max":"","min":"","name":"due","required":false,"type":"date","unique":false},{"hidden":false,"max":5000,"min":0,"name":"title","required":false,"type":"text","unique":false}],"listRule":null,"name":"lists","type":"auth","updateRule":null,"viewRule":"team = @request.auth.team || id = @request.auth.id"}
 r/lists/list00000000001 {"count":9007199254740991,"created":"2024-01-01 00:00:00.000Z","due":"9999-12-31 23:59:59.999Z","members":["user00000000bob","user00000000ann"],"tags":["y\"z","x"],"title":"Fix login","updated":"2024-05-03 00:00:00.000Z"}
 221 bytes
@@ -325,8 +379,8 @@ others {"collectionName":"lists","created":"2024-01-01 00:00:00.000Z","due":"","
 "##
 }
 
-/// What is told of the token.
-fn told_of_token() -> &'static str {
+/// The token as it is printed.
+fn token_as_printed() -> &'static str {
     r##"t/aaaaaaaaaaaaaaaaaaaaaaaaaaaaaaaa {"collection":"users","id":"user00000000ann","until":"9999-12-31 23:59:59.999Z"}
 "##
 }

@@ -36,20 +36,34 @@ impl RandomSource for System {
     }
 }
 
+/// Moments and words of the host that never come.
+fn silent() -> System {
+    System {
+        secs: None,
+        random: false,
+    }
+}
+
 #[test]
-fn tells_time(rt: HostRuntime) -> Result<(), Fail> {
+fn a_fixed_clock_stands(rt: HostRuntime) -> Result<(), Fail> {
     let moment = Moment::of_millis(1_714_557_600_000).ok_or("no moment")?;
     let mut fixed = FixedClock::new(moment);
     for calls in [1, 2] {
         assert_eq!(rt; fixed.now(), moment);
         assert_eq!(rt; fixed.calls, calls);
     }
-    let mut clock = HostClock::new(System {
-        secs: None,
-        random: false,
-    });
+    Ok(())
+}
 
-    // The last is in the year 10000.
+#[test]
+fn the_host_tells_time(rt: HostRuntime) {
+    assert!(rt; HostClock::new(&rt).now().millis() > 1_714_557_600_000);
+}
+
+// The last is in the year 10000.
+#[test]
+fn a_clock_that_fails_gives_the_last_moment(rt: HostRuntime) {
+    let mut clock = HostClock::new(silent());
     let cases = [
         (None, 0),
         (Some(1_714_557_600), 1_714_557_600_000),
@@ -60,20 +74,19 @@ fn tells_time(rt: HostRuntime) -> Result<(), Fail> {
         clock.rt.secs = secs;
         assert_eq!(rt; clock.now().millis(), millis);
     }
-    assert!(rt; HostClock::new(&rt).now() > moment);
-    Ok(())
 }
 
 #[test]
-fn gives_words(rt: HostRuntime) {
+fn counting_dice_count(rt: HostRuntime) {
     let mut dice = CountingDice::new(u64::MAX - 1);
     for word in [u64::MAX - 1, u64::MAX, 0] {
         assert_eq!(rt; dice.word(), word);
     }
-    let mut dice = HostDice::new(System {
-        secs: None,
-        random: false,
-    });
+}
+
+#[test]
+fn dice_that_fail_give_the_last_word(rt: HostRuntime) {
+    let mut dice = HostDice::new(silent());
     for (random, word) in [
         (false, 0),
         (true, 0x0101_0101_0101_0101),
@@ -82,6 +95,10 @@ fn gives_words(rt: HostRuntime) {
         dice.rt.random = random;
         assert_eq!(rt; dice.word(), word);
     }
+}
+
+#[test]
+fn dice_give_words_that_differ(rt: HostRuntime) {
     let mut dice = HostDice::new(&rt);
     assert_ne!(rt; dice.word(), dice.word());
 }

@@ -2,75 +2,101 @@
 use pocket_filter::{parse, print, printed_filter_is_read};
 use pocket_json::{printed_tree_is_read, read_jv};
 use pocket_meaning::laws;
-use pocket_types::{Expr, Op, Operand};
+use pocket_types::{Expr, Op, Operand, Part};
 use std::test::Fail;
+
+/// Whether these are `a` and `b` with the suffix `c`.
+fn are_parts(parts: &[Part]) -> bool {
+    let [a, b] = parts else {
+        return false;
+    };
+    let Some(suffix) = &b.suffix else {
+        return false;
+    };
+    let names = a.name.as_str() == "a" && b.name.as_str() == "b";
+    names && a.suffix.is_none() && suffix.as_str() == "c"
+}
+
+/// Whether these are the sides `@a.b:c` and `x'y`.
+fn are_sides(left: &Operand, right: &Operand) -> bool {
+    match (left, right) {
+        (Operand::Ident { sign: true, parts }, Operand::Text(text)) => {
+            are_parts(parts.as_slice()) && text.as_str() == "x'y"
+        }
+        _ => false,
+    }
+}
+
+fn is_first(tree: &Expr) -> bool {
+    match tree {
+        Expr::Test {
+            left,
+            any: true,
+            op: Op::Unlike,
+            right,
+        } => are_sides(left, right),
+        _ => false,
+    }
+}
+
+fn is_second(tree: &Expr) -> bool {
+    matches!(
+        tree,
+        Expr::Test {
+            left: Operand::Num(1),
+            any: false,
+            op: Op::Eq,
+            right: Operand::Flag(true)
+        }
+    )
+}
+
+fn is_third(tree: &Expr) -> bool {
+    matches!(
+        tree,
+        Expr::Test {
+            left: Operand::Null,
+            any: false,
+            op: Op::Le,
+            right: Operand::Flag(false)
+        }
+    )
+}
+
+/// Whether a tree is the first or both of the others.
+fn has_its_parts(tree: &Expr) -> bool {
+    let Expr::Or(first, rest) = tree else {
+        return false;
+    };
+    let Expr::And(second, third) = rest.get() else {
+        return false;
+    };
+    is_first(first.get()) && is_second(second.get()) && is_third(third.get())
+}
 
 #[test]
 fn trees_have_their_parts(rt: HostRuntime) -> Result<(), Fail> {
     let tree = parse(rt.alloc(), "@a.b:c?!~'x\\'y'||1=true&&null<=false")?;
-    let Expr::Or(first, rest) = &tree else {
-        return Err("no disjunction".into());
-    };
-    let Expr::Test {
-        left: Operand::Ident { sign: true, parts },
-        any: true,
-        op: Op::Unlike,
-        right: Operand::Text(text),
-    } = first.get()
-    else {
-        return Err("no comparison of an ident and a text".into());
-    };
-    assert_eq!(rt; text.as_str(), "x'y");
-    let [a, b] = parts.as_slice() else {
-        return Err("not two parts".into());
-    };
-    assert_eq!(rt; (a.name.as_str(), a.suffix.is_none()), ("a", true));
-    assert_eq!(rt; b.name.as_str(), "b");
-    let Some(suffix) = &b.suffix else {
-        return Err("no suffix".into());
-    };
-    assert_eq!(rt; suffix.as_str(), "c");
-    let Expr::And(second, third) = rest.get() else {
-        return Err("no conjunction".into());
-    };
-    assert!(rt;
-        matches!(
-            second.get(),
-            Expr::Test {
-                left: Operand::Num(1),
-                any: false,
-                op: Op::Eq,
-                right: Operand::Flag(true)
-            }
-        )
-    );
-    assert!(rt;
-        matches!(
-            third.get(),
-            Expr::Test {
-                left: Operand::Null,
-                any: false,
-                op: Op::Le,
-                right: Operand::Flag(false)
-            }
-        )
-    );
+    assert!(rt; has_its_parts(&tree));
     Ok(())
 }
 
 #[test]
-fn what_is_printed_may_be_read(rt: HostRuntime) -> Result<(), Fail> {
-    let alloc = rt.alloc();
-    let filter = parse(alloc, "((a=1))&&(@b.c:d?!~'\"\\\\'||(null=-0||-7<e))// end")?;
-    let text = print(alloc, &filter)?;
+fn what_is_printed_of_filters_may_be_read(rt: HostRuntime) -> Result<(), Fail> {
+    let text = "((a=1))&&(@b.c:d?!~'\"\\\\'||(null=-0||-7<e))// end";
+    let filter = parse(rt.alloc(), text)?;
+    let text = print(rt.alloc(), &filter)?;
     if text.len() <= 3500 {
         printed_filter_is_read(&filter, text.as_str());
     }
-    let tree = read_jv(
-        alloc,
-        b" {\"b\" : [1, \"\\u0000\\ud83d\\ude00\\/\"], \"a\" : {}, \"a\" : null} ",
-    )?;
-    let text = tree.print(alloc)?;
+    Ok(())
+}
+
+#[test]
+fn what_is_printed_of_trees_may_be_read(rt: HostRuntime) -> Result<(), Fail> {
+    let text = b" {\"b\" : [1, \"\\u0000\\ud83d\\ude00\\/\"], \"a\" : {}, \"a\" : null} ";
+    let tree = read_jv(rt.alloc(), text)?;
+    let text = tree.print(rt.alloc())?;
     printed_tree_is_read(&tree, text.as_str());
     Ok(())
 }

@@ -18,30 +18,38 @@ fn commit(alloc: Global, keeper: &mut MemoryKeeper) -> Result<(), KeepFault> {
     keeper.commit(alloc, &puts, &cuts)
 }
 
-/// Tries what a load gives: these rows, or that the call fails.
+/// What a load gives: the rows, or why it fails.
+fn loaded(alloc: Global, keeper: &mut MemoryKeeper) -> Result<String, AllocError> {
+    match keeper.load(alloc) {
+        Ok(rows) => lines_of(alloc, rows.as_slice()),
+        Err(fault) => format!(in alloc; "{fault:?}"),
+    }
+}
+
+/// Tries what a load gives.
 fn try_load(
     rt: &impl Abort,
     alloc: Global,
     keeper: &mut MemoryKeeper,
     expected: &str,
 ) -> Result<(), Fail> {
-    let found = match keeper.load(alloc) {
-        Ok(rows) => lines_of(alloc, rows.as_slice())?,
-        Err(fault) => format!(in alloc; "{fault:?}")?,
-    };
-    assert_eq!(rt; found.as_str(), expected);
+    assert_eq!(rt; loaded(alloc, keeper)?.as_str(), expected);
     Ok(())
 }
 
 // The calls that fail are counted together, loads and commits.
 #[test]
 fn a_call_that_fails_leaves_the_rows(rt: HostRuntime) -> Result<(), Fail> {
-    let alloc = rt.alloc();
-    let mut keeper = keeper_of(alloc, "a 1", &[1, 2])?;
-    try_load(&rt, alloc, &mut keeper, "a 1\n")?;
-    assert_eq!(rt; commit(alloc, &mut keeper), Err(KeepFault::Failed));
-    assert_eq!(rt; lines_of(alloc, keeper.rows())?.as_str(), "a 1\n");
-    try_load(&rt, alloc, &mut keeper, "Failed")?;
-    assert_eq!(rt; commit(alloc, &mut keeper), Ok(()));
-    try_load(&rt, alloc, &mut keeper, "b 2\nc 3\n")
+    let mut keeper = keeper_of(rt.alloc(), "a 1", &[1, 2])?;
+    try_load(&rt, rt.alloc(), &mut keeper, "a 1\n")?;
+    assert_eq!(rt; commit(rt.alloc(), &mut keeper), Err(KeepFault::Failed));
+    try_load(&rt, rt.alloc(), &mut keeper, "Failed")?;
+    try_load(&rt, rt.alloc(), &mut keeper, "a 1\n")
+}
+
+#[test]
+fn a_commit_cuts_and_puts(rt: HostRuntime) -> Result<(), Fail> {
+    let mut keeper = keeper_of(rt.alloc(), "a 1", &[])?;
+    assert_eq!(rt; commit(rt.alloc(), &mut keeper), Ok(()));
+    try_load(&rt, rt.alloc(), &mut keeper, "b 2\nc 3\n")
 }

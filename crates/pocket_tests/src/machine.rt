@@ -3,8 +3,9 @@ use pocket_core::{
     REPLY_507, REPLY_507_CLOSE, Reply, ReplyBody, StartFault, State, Why, no_memory_reply,
     reply_bytes,
 };
+use pocket_keeper::MemoryKeeper;
 use pocket_types::Text;
-use std::alloc::Global;
+use std::alloc::{AllocError, Global};
 use std::process::Abort;
 use std::test::Fail;
 
@@ -81,6 +82,21 @@ fn replies_are_framed(rt: HostRuntime) -> Result<(), Fail> {
     Ok(())
 }
 
+/// How an opening ended.
+fn told_opening(alloc: Global, opened: Result<State, StartFault>) -> Result<String, AllocError> {
+    match opened {
+        Ok(state) => format!(in alloc; "{} commands", state.journal().len()),
+        Err(StartFault::BadStore(key)) => format!(in alloc; "bad {key}"),
+        Err(fault) => format!(in alloc; "{fault}"),
+    }
+}
+
+/// How a state over a keeper is opened.
+fn opened(alloc: Global, keeper: &mut MemoryKeeper) -> Result<String, AllocError> {
+    let admin = Text::from_str(alloc, "adminadminadmin1")?;
+    told_opening(alloc, State::load(alloc, keeper, admin))
+}
+
 /// Tries how a state with these rows is opened, where this call fails.
 fn try_opening(
     rt: &impl Abort,
@@ -90,13 +106,7 @@ fn try_opening(
     expected: &str,
 ) -> Result<(), Fail> {
     let mut keeper = keeper_of(alloc, rows, &[failing])?;
-    let admin = Text::from_str(alloc, "adminadminadmin1")?;
-    let found = match State::load(alloc, &mut keeper, admin) {
-        Ok(state) => format!(in alloc; "{} commands", state.journal().len())?,
-        Err(StartFault::BadStore(key)) => format!(in alloc; "bad {key}")?,
-        Err(fault) => format!(in alloc; "{fault}")?,
-    };
-    assert_eq!(rt; found.as_str(), expected);
+    assert_eq!(rt; opened(alloc, &mut keeper)?.as_str(), expected);
     Ok(())
 }
 

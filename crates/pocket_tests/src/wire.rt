@@ -109,17 +109,26 @@ fn reads_no_further_than_16384_bytes(rt: HostRuntime) -> Result<(), Fail> {
     try_long(&rt, alloc, 20_000, 33, "refused 501")
 }
 
-// The second call of source and sink fails.
-#[test]
-fn writes_all_or_a_front(rt: HostRuntime) -> Result<(), Fail> {
-    let alloc = rt.alloc();
-    let source = MemorySource::new(bytes(alloc, "hello")?, 2, vec![in alloc; 1]?);
+/// A link whose source has these bytes and whose sink is empty. The second call of each fails.
+fn link(alloc: Global, text: &str) -> Result<MemoryLink, AllocError> {
+    let source = MemorySource::new(bytes(alloc, text)?, 2, vec![in alloc; 1]?);
     let sink = MemorySink::new(Seq::new(alloc), vec![in alloc; 1]?);
-    let mut link = MemoryLink { source, sink };
+    Ok(MemoryLink { source, sink })
+}
+
+#[test]
+fn a_link_reads_in_pieces(rt: HostRuntime) -> Result<(), Fail> {
+    let mut link = link(rt.alloc(), "hello")?;
     let mut buffer = [0; 8];
     for want in [Some(2), None, Some(2), Some(1), Some(0)] {
         assert_eq!(rt; link.read(&mut buffer).ok(), want);
     }
+    Ok(())
+}
+
+#[test]
+fn writes_all_or_a_front(rt: HostRuntime) -> Result<(), Fail> {
+    let mut link = link(rt.alloc(), "")?;
     for want in [true, false, true] {
         assert_eq!(rt; write_all(&mut link, b"ab").is_ok(), want);
     }
@@ -159,13 +168,16 @@ fn adapts_writers(rt: HostRuntime) {
     assert_eq!(rt; room, *b"hellohe");
 }
 
+/// Tries the reply to a request that is refused.
+fn try_refusal(rt: &impl Abort, reply: &Seq<u8>, expected: &[u8]) {
+    assert_eq!(rt; reply.as_slice(), expected);
+}
+
 #[test]
 fn prints_refusals(rt: HostRuntime) -> Result<(), Fail> {
-    let refused = refused_reply(rt.alloc(), 501)?;
     let text = b"HTTP/1.1 501 Not Implemented\r\nContent-Length: 0\r\nConnection: close\r\n\r\n";
-    assert_eq!(rt; refused.as_slice(), text.as_slice());
-    let refused = refused_reply(rt.alloc(), 413)?;
+    try_refusal(&rt, &refused_reply(rt.alloc(), 501)?, text.as_slice());
     let text = b"HTTP/1.1 413 Payload Too Large\r\nContent-Length: 0\r\nConnection: close\r\n\r\n";
-    assert_eq!(rt; refused.as_slice(), text.as_slice());
+    try_refusal(&rt, &refused_reply(rt.alloc(), 413)?, text.as_slice());
     Ok(())
 }
