@@ -1,10 +1,11 @@
 // Requests of which rules are asked, from what cases are given.
 use crate::given::Given;
-use crate::stores::world_of_lines;
+use crate::stores::shelves_of_lines;
 use crate::trouble::Trouble;
 use pocket_ops::date_read;
 use pocket_types::{
-    Ask, Caller, Cell, Context, Field, Id, Method, Name, Pair, Sent, Seq, Shelf, Text,
+    Ask, Caller, Cell, Collection, Context, Field, Id, Method, Moment, Name, Pair, Rec, Sent, Seq,
+    Shelf, Text,
 };
 use std::alloc::{AllocError, Global};
 
@@ -58,38 +59,59 @@ fn pairs_of(alloc: Global, words: &str) -> Result<Seq<Pair>, AllocError> {
 fn sent_of(alloc: Global, fields: &[Field], cells: Seq<Cell>) -> Result<Seq<Sent>, AllocError> {
     let mut sent = Seq::new(alloc);
     for (field, cell) in fields.iter().zip(cells.into_vec()) {
-        let field = field.name.clone()?;
-        sent.push(Sent { field, cell })?;
+        sent.push(Sent {
+            field: field.name.clone()?,
+            cell,
+        })?;
     }
     Ok(sent)
 }
 
-/// What is sent: the fields of the last record of the last collection of the rows that are given as `sent`, where that is the home.
-fn body_of(alloc: Global, given: &Given, home: &str) -> Result<Seq<Sent>, Trouble> {
-    let mut shelves = world_of_lines(alloc, given.text("sent"))?
-        .shelves
-        .into_vec();
-    let Some(Shelf { collection, recs }) = shelves.pop() else {
-        return Ok(Seq::new(alloc));
-    };
-    if collection.name.as_str() != home {
-        return Ok(Seq::new(alloc));
-    }
-    match recs.into_vec().pop() {
+/// What a record of a collection sends.
+fn sent_by(alloc: Global, collection: &Collection, rec: Option<Rec>) -> Result<Seq<Sent>, Trouble> {
+    match rec {
         Some(rec) => Ok(sent_of(alloc, collection.fields.as_slice(), rec.cells)?),
         None => Err(Trouble::Case("no record that is sent")),
     }
 }
 
-/// The request of a caller as it is given by `moment`, `method`, `context`, `headers`, `query` and `sent`.
-pub fn ask_of(alloc: Global, given: &Given, caller: &str, home: &str) -> Result<Ask, Trouble> {
+/// What the last record of a shelf sends.
+fn body_on(alloc: Global, shelf: Shelf) -> Result<Seq<Sent>, Trouble> {
+    let Shelf { collection, recs } = shelf;
+    sent_by(alloc, &collection, recs.into_vec().pop())
+}
+
+/// What is sent: the fields of the last record of the last collection of the rows that are given as `sent`, where that is the home.
+fn body_of(alloc: Global, given: &Given, home: &str) -> Result<Seq<Sent>, Trouble> {
+    match shelves_of_lines(alloc, given.text("sent"))?.pop() {
+        Some(shelf) if shelf.collection.name.as_str() == home => body_on(alloc, shelf),
+        _ => Ok(Seq::new(alloc)),
+    }
+}
+
+/// The request of a caller with what it sends, as it is given by `method`, `context`, `headers` and `query`.
+fn ask_by(
+    alloc: Global,
+    given: &Given,
+    caller: Caller,
+    body: Seq<Sent>,
+    moment: Moment,
+) -> Result<Ask, Trouble> {
+    let headers = pairs_of(alloc, given.text("headers"))?;
     Ok(Ask {
-        caller: caller_of(alloc, caller)?,
+        caller,
         method: method_of(given.text("method")),
         context: context_of(given.text("context")),
-        headers: pairs_of(alloc, given.text("headers"))?,
+        headers,
         query: pairs_of(alloc, given.text("query"))?,
-        body: body_of(alloc, given, home)?,
-        moment: date_read(given.text("moment")).ok_or("no moment")?,
+        body,
+        moment,
     })
+}
+
+/// The request of a caller as it is given, with `moment` and `sent` beside.
+pub fn ask_of(alloc: Global, given: &Given, caller: &str, home: &str) -> Result<Ask, Trouble> {
+    let moment = date_read(given.text("moment")).ok_or("no moment")?;
+    let caller = caller_of(alloc, caller)?;
+    ask_by(alloc, given, caller, body_of(alloc, given, home)?, moment)
 }

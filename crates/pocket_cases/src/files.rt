@@ -21,9 +21,9 @@ fn sides_of(case: &str) -> (&str, &str) {
         .unwrap_or((case, "nothing is said to come"))
 }
 
-/// The outcome of a call, or why it has none.
-fn told_outcome(alloc: Global, given: &Given, call: &str) -> Result<String, AllocError> {
-    match outcome(alloc, given, call) {
+/// What came of a call, or why nothing did.
+fn told(alloc: Global, outcome: Result<String, Trouble>) -> Result<String, AllocError> {
+    match outcome {
         Ok(text) => Ok(text),
         Err(Trouble::Memory) => String::from_str(alloc, "out of memory"),
         Err(Trouble::Case(text)) => format!(in alloc; "no case: {text}"),
@@ -46,11 +46,15 @@ fn give(alloc: Global, given: &mut Given, text: &str) -> Result<(), Trouble> {
 }
 
 impl Report {
-    /// Tries a case.
-    fn note(&mut self, alloc: Global, given: &Given, case: &str) -> Result<(), AllocError> {
-        let (call, expected) = sides_of(case);
-        let came = told_outcome(alloc, given, call)?;
-        let expected = expected_outcome(alloc, given, expected)?;
+    /// Notes what came of a case, and tells it where something else has to come.
+    fn note(
+        &mut self,
+        case: &str,
+        came: Result<String, AllocError>,
+        expected: Result<String, AllocError>,
+    ) -> Result<(), AllocError> {
+        let came = came?;
+        let expected = expected?;
         self.cases = self.cases.saturating_add(1);
         if came.as_str().trim_end() != expected.as_str().trim_end() {
             self.differing = self.differing.saturating_add(1);
@@ -67,22 +71,12 @@ fn try_case(
     alloc: Global,
     case: &str,
 ) -> Result<(), Trouble> {
-    match case.strip_prefix("given ") {
-        Some(text) => give(alloc, given, text),
-        None => Ok(report.note(alloc, given, case)?),
+    if let Some(text) = case.strip_prefix("given ") {
+        return give(alloc, given, text);
     }
-}
-
-fn try_cases(
-    report: &mut Report,
-    given: &mut Given,
-    alloc: Global,
-    cases: &[String],
-) -> Result<(), Trouble> {
-    for case in cases {
-        try_case(report, given, alloc, case.as_str())?;
-    }
-    Ok(())
+    let (call, expected) = sides_of(case);
+    let came = told(alloc, outcome(alloc, given, call));
+    Ok(report.note(case, came, expected_outcome(alloc, given, expected))?)
 }
 
 /// Tries all cases of a file.
@@ -94,7 +88,9 @@ fn report_of(alloc: Global, text: &str) -> Result<Report, Trouble> {
         differing: 0,
         told: String::new(alloc),
     };
-    try_cases(&mut report, &mut given, alloc, cases.as_slice())?;
+    for case in cases.as_slice() {
+        try_case(&mut report, &mut given, alloc, case.as_str())?;
+    }
     Ok(report)
 }
 

@@ -1,7 +1,7 @@
 // Calls over the texts of filters.
 use crate::trouble::Trouble;
 use pocket_filter::{parse, print};
-use pocket_types::{Expr, FilterFault};
+use pocket_types::{Expr, FilterFault, Text};
 use std::alloc::{AllocError, Global};
 
 /// The longest filter, in bytes.
@@ -21,13 +21,21 @@ pub fn told_fault(alloc: Global, fault: FilterFault) -> Result<String, AllocErro
     }
 }
 
+/// Whether a canonical text is read back to a filter with this text or is too long for a filter.
+fn is_read_back(alloc: Global, text: &Text) -> Result<bool, AllocError> {
+    match parse(alloc, text.as_str()) {
+        Ok(again) => Ok(print(alloc, &again)? == *text),
+        Err(fault) => Ok(fault == FilterFault::TooLong && text.len() > LONGEST),
+    }
+}
+
 /// A filter's canonical text, where this is read back to a filter with the same one or is too long for a filter.
 fn printed(alloc: Global, tree: &Expr) -> Result<String, Trouble> {
     let text = print(alloc, tree)?;
-    match parse(alloc, text.as_str()) {
-        Ok(again) if print(alloc, &again)? == text => Ok(text.into_string()),
-        Err(FilterFault::TooLong) if text.len() > LONGEST => Ok(text.into_string()),
-        _ => Err(Trouble::Case("what is printed isn't read back")),
+    if is_read_back(alloc, &text)? {
+        Ok(text.into_string())
+    } else {
+        Err(Trouble::Case("what is printed isn't read back"))
     }
 }
 

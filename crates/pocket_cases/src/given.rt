@@ -32,21 +32,31 @@ fn named_byte(name: &str) -> Option<u8> {
     u8::from_str_radix(name.strip_prefix('x')?, 16).ok()
 }
 
-/// Adds what follows a `#`, with the number in place of the mark.
-fn push_marked(out: &mut String, piece: &str, number: u32) -> Result<(), AllocError> {
+/// How many digits a mark asks for, by what follows its `#`, and the rest.
+fn digits_of(piece: &str) -> (usize, &str) {
     if let Some(rest) = piece.strip_prefix("32") {
-        write!(out, "{number:032}")?;
-        out.push_str(rest)
+        (32, rest)
     } else if let Some(rest) = piece.strip_prefix("15") {
-        write!(out, "{number:015}")?;
-        out.push_str(rest)
+        (15, rest)
     } else if let Some(rest) = piece.strip_prefix('3') {
-        write!(out, "{number:03}")?;
-        out.push_str(rest)
+        (3, rest)
     } else {
-        write!(out, "{number}")?;
-        out.push_str(piece)
+        (0, piece)
     }
+}
+
+/// Adds a number in at least so many digits.
+fn push_number(
+    out: &mut String,
+    alloc: Global,
+    number: u32,
+    digits: usize,
+) -> Result<(), AllocError> {
+    let number = format!(in alloc; "{number}")?;
+    for _ in number.len()..digits {
+        out.push('0')?;
+    }
+    out.push_str(number.as_str())
 }
 
 /// A text with its marks replaced by a number: `#` by its digits, `#3`, `#15` and `#32` by so many with zeros before them.
@@ -57,7 +67,9 @@ pub fn numbered(alloc: Global, text: &str, number: u32) -> Result<String, AllocE
         found.push_str(first)?;
     }
     for piece in pieces {
-        push_marked(&mut found, piece, number)?;
+        let (digits, rest) = digits_of(piece);
+        push_number(&mut found, alloc, number, digits)?;
+        found.push_str(rest)?;
     }
     Ok(found)
 }
@@ -75,6 +87,25 @@ fn push_times(out: &mut Vec<u8>, alloc: Global, times: u32, text: &str) -> Resul
         out.extend_from_slice(piece.as_bytes())?;
     }
     Ok(())
+}
+
+/// Adds the bytes of a character.
+fn push_char(out: &mut Vec<u8>, alloc: Global, found: char) -> Result<bool, AllocError> {
+    let text = format!(in alloc; "{found}")?;
+    out.extend_from_slice(text.as_bytes())?;
+    Ok(true)
+}
+
+/// Adds what stands for a name such as `40*ab`. Whether it stands for something.
+fn push_repeated(out: &mut Vec<u8>, alloc: Global, name: &str) -> Result<bool, AllocError> {
+    let Some((times, text)) = name.split_once('*') else {
+        return Ok(false);
+    };
+    let Ok(times) = times.parse::<u32>() else {
+        return Ok(false);
+    };
+    push_times(out, alloc, times, text)?;
+    Ok(true)
 }
 
 impl Given {
@@ -102,34 +133,15 @@ impl Given {
     /// Whether it stands for something.
     fn push_named(&self, out: &mut Vec<u8>, alloc: Global, name: &str) -> Result<bool, AllocError> {
         if let Some(text) = self.texts.get(name) {
-            out.extend_from_slice(text.as_bytes())?;
-            return Ok(true);
-        }
-        if let Some(found) = named_char(name) {
-            out.extend_from_slice(format!(in alloc; "{found}")?.as_bytes())?;
-            return Ok(true);
+            return Ok(out.extend_from_slice(text.as_bytes()).and(Ok(true))?);
         }
         if let Some(byte) = named_byte(name) {
-            out.push(byte)?;
-            return Ok(true);
+            return Ok(out.push(byte).and(Ok(true))?);
         }
-        self.push_repeated(out, alloc, name)
-    }
-
-    fn push_repeated(
-        &self,
-        out: &mut Vec<u8>,
-        alloc: Global,
-        name: &str,
-    ) -> Result<bool, AllocError> {
-        let Some((times, text)) = name.split_once('*') else {
-            return Ok(false);
-        };
-        let Ok(times) = times.parse::<u32>() else {
-            return Ok(false);
-        };
-        push_times(out, alloc, times, text)?;
-        Ok(true)
+        match named_char(name) {
+            Some(found) => push_char(out, alloc, found),
+            None => push_repeated(out, alloc, name),
+        }
     }
 
     /// Adds what follows a `<`. Brackets around what stands for nothing stay as they are.

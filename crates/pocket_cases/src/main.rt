@@ -5,6 +5,7 @@ mod askers;
 mod cases;
 mod files;
 mod filters;
+mod gate;
 mod given;
 mod outcomes;
 mod paths;
@@ -13,6 +14,7 @@ mod rows;
 mod runs;
 mod schemas;
 mod stores;
+mod tables;
 mod texts;
 mod trouble;
 mod truths;
@@ -32,17 +34,12 @@ fn read_words(rt: &(impl Env + AllocGlobal)) -> io::Result<Vec<String>> {
     Ok(words)
 }
 
-/// Tries the file at a path.
-fn try_path(rt: &HostRuntime, path: &str) -> io::Result<bool> {
-    let text = fs::read_to_string(rt, path)?;
-    try_file(rt, path, text.as_str())
-}
-
 /// Tries the files that the command line names. Whether all their cases came as they have to.
 fn run(rt: &HostRuntime) -> io::Result<bool> {
     let mut all_agree = true;
     for path in read_words(rt)?.as_slice() {
-        let agree = try_path(rt, path.as_str())?;
+        let text = fs::read_to_string(rt, path.as_str())?;
+        let agree = try_file(rt, path.as_str(), text.as_str())?;
         all_agree = all_agree && agree;
     }
     Ok(all_agree)

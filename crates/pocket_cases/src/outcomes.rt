@@ -2,7 +2,7 @@
 use crate::cases::head_of;
 use crate::given::Given;
 use crate::trouble::Trouble;
-use crate::{filters, paths, requests, rows, runs, stores, texts, truths, values};
+use crate::{filters, gate, paths, requests, rows, runs, stores, tables, texts, truths, values};
 use std::alloc::Global;
 
 /// The outcome of a call that is written in a case.
@@ -17,6 +17,7 @@ pub fn outcome(alloc: Global, given: &Given, case: &str) -> Result<String, Troub
     }
 }
 
+/// The outcome of a call with its text, whose names are spelled out.
 fn outcome_of_text(
     alloc: Global,
     given: &Given,
@@ -30,17 +31,6 @@ fn outcome_of_text(
         "cell" => values::cell(alloc, text),
         "date" => values::date(alloc, text),
         "macro" => values::macro_at(alloc, text),
-        _ => outcome_of_names(alloc, given, call, text),
-    }
-}
-
-fn outcome_of_names(
-    alloc: Global,
-    given: &Given,
-    call: &str,
-    text: &str,
-) -> Result<String, Trouble> {
-    match call {
         "name" => texts::name(alloc, text),
         "id" => texts::id(alloc, text),
         "made" => texts::made_id(alloc, text),
@@ -48,17 +38,7 @@ fn outcome_of_names(
         "parse" => filters::parsed(alloc, text),
         "rule" | "client" | "admin" => paths::resolved(alloc, given, call, text),
         "holds" => truths::holds(alloc, given, text),
-        _ => outcome_of_rows(alloc, given, call, text),
-    }
-}
-
-fn outcome_of_rows(
-    alloc: Global,
-    given: &Given,
-    call: &str,
-    text: &str,
-) -> Result<String, Trouble> {
-    match call {
+        "may" | "sees" => gate::asked(alloc, given, call, text),
         "key" => rows::key(alloc, text),
         "names" => rows::own_names(alloc, text),
         "collection" => rows::collection(alloc, text),
@@ -68,17 +48,8 @@ fn outcome_of_rows(
         "plain_record" => rows::plain_record(alloc, given, text),
         "commit" => stores::committed(alloc, given, text),
         "print" => stores::printed(alloc, text),
-        _ => outcome_of_runs(alloc, given, call, text),
-    }
-}
-
-fn outcome_of_runs(
-    alloc: Global,
-    given: &Given,
-    call: &str,
-    text: &str,
-) -> Result<String, Trouble> {
-    match call {
+        "read" => tables::read(alloc, given, text),
+        "cut" => tables::cut_and_back(alloc, given, text),
         "target" => requests::target(alloc, text),
         "phrase" => requests::phrase(alloc, text),
         "work" => requests::work(alloc, text),

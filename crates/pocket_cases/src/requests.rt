@@ -1,5 +1,6 @@
 // Calls over requests: the bytes of heads, targets, phrases of statuses, and the works of requests.
 use crate::askers::method_of;
+use crate::texts::in_both_ways;
 use crate::trouble::Trouble;
 use pocket_core::{Call, Draw, Work, work_of};
 use pocket_ops::date_read;
@@ -45,25 +46,38 @@ fn told(alloc: Global, answer: Result<Next, WireFault>) -> Result<String, AllocE
     }
 }
 
-/// What comes next in these bytes, in pieces of at most so many.
-fn next_in(alloc: Global, bytes: &[u8], piece: usize) -> Result<String, AllocError> {
+/// Bytes in pieces of at most so many. Of the reads those with these numbers fail.
+pub fn source_of(
+    alloc: Global,
+    bytes: &[u8],
+    piece: usize,
+    failing: Vec<u64>,
+) -> Result<MemorySource, AllocError> {
     let bytes = Seq::from_vec(bytes.to_vec(alloc)?);
-    let mut source = MemorySource::new(bytes, piece.max(1), Vec::new(alloc));
+    Ok(MemorySource::new(bytes, piece.max(1), failing))
+}
+
+/// What comes next from a source.
+fn next_from(alloc: Global, mut source: MemorySource) -> Result<String, AllocError> {
     let mut inbox = Inbox::new(alloc);
-    let answer = next_request(alloc, &mut inbox, &mut source);
-    told(alloc, answer)
+    told(alloc, next_request(alloc, &mut inbox, &mut source))
+}
+
+/// What comes next in these bytes, in pieces of at most so many.
+fn next_in(alloc: Global, bytes: &[u8], piece: usize) -> Result<String, Trouble> {
+    Ok(next_from(alloc, source_of(alloc, bytes, piece, Vec::new(alloc))?)?)
 }
 
 /// What comes next in these bytes, in pieces of any size.
 pub fn request(alloc: Global, bytes: &[u8]) -> Result<String, Trouble> {
     let outcome = next_in(alloc, bytes, 1)?;
-    for piece in [7, 100_000] {
-        let found = next_in(alloc, bytes, piece)?;
-        if found != outcome {
-            return Ok(format!(in alloc; "{outcome}, but {found} in pieces of {piece}")?);
-        }
-    }
-    Ok(outcome)
+    let outcome = in_both_ways(alloc, outcome, next_in(alloc, bytes, 7), "in pieces of 7")?;
+    in_both_ways(
+        alloc,
+        outcome,
+        next_in(alloc, bytes, 100_000),
+        "in one piece",
+    )
 }
 
 /// The collection and the id that a target names, or `none`.
@@ -107,18 +121,24 @@ fn header_of_line(alloc: Global, line: &str) -> Result<Pair, AllocError> {
     })
 }
 
-/// A request of `METHOD TARGET`, with the headers of the lines below.
-fn request_of(alloc: Global, text: &str) -> Result<Request, Trouble> {
-    let (first, lines) = text.split_once('\n').unwrap_or((text, ""));
-    let (method, target) = first.split_once(' ').ok_or("no method")?;
+/// The headers of lines.
+fn headers_of_lines(alloc: Global, lines: &str) -> Result<Seq<Pair>, AllocError> {
     let mut headers = Seq::new(alloc);
     for line in lines.lines() {
         headers.push(header_of_line(alloc, line)?)?;
     }
+    Ok(headers)
+}
+
+/// A request of `METHOD TARGET`, with the headers of the lines below.
+fn request_of(alloc: Global, text: &str) -> Result<Request, Trouble> {
+    let (first, lines) = text.split_once('\n').unwrap_or((text, ""));
+    let (method, target) = first.split_once(' ').ok_or("no method")?;
+    let target = Text::from_str(alloc, target)?;
     Ok(Request {
         method: method_of(method),
-        target: Text::from_str(alloc, target)?,
-        headers,
+        target,
+        headers: headers_of_lines(alloc, lines)?,
         body: Seq::new(alloc),
         close: false,
         cost: 99,
@@ -160,12 +180,17 @@ fn told_work(alloc: Global, work: &Work) -> Result<String, AllocError> {
     Ok(text)
 }
 
-/// The work of a request, with the moment 2024-05-01 10:00 and the words 6 and 7.
-pub fn work(alloc: Global, text: &str) -> Result<String, Trouble> {
+/// What is told of the work of a request, with the moment 2024-05-01 10:00 and the words 6 and 7.
+fn told_for(alloc: Global, request: &Request) -> Result<String, Trouble> {
     let draw = Draw {
         moment: date_read("2024-05-01 10:00").ok_or("no moment")?,
         words: [6, 7],
     };
-    let work = work_of(alloc, &request_of(alloc, text)?, draw)?;
+    let work = work_of(alloc, request, draw)?;
     Ok(told_work(alloc, &work)?)
+}
+
+/// The work of a request.
+pub fn work(alloc: Global, text: &str) -> Result<String, Trouble> {
+    told_for(alloc, &request_of(alloc, text)?)
 }

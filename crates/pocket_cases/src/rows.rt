@@ -1,10 +1,13 @@
 // Calls over kept rows, each read alone.
+ghost use Rattle.pocket_types.specs.Sound.{IsSoundCollection};
+ghost use Rattle.pocket_keeper.specs.Plain.{IsPlainCollection};
+
 use crate::given::Given;
 use crate::schemas::collections_of;
 use crate::trouble::Trouble;
 use pocket_keeper::{
-    KeptRow, MemoryKeeper, read_collection, read_rec, row_of_collection, row_of_rec, row_of_token,
-    split_rec_key,
+    KeptRow, MemoryKeeper, Token, read_collection, read_rec, row_of_collection, row_of_rec,
+    row_of_token, split_rec_key,
 };
 use pocket_ops::{collection_jv, has_own_names, kept_jv, rec_jv, row_len};
 use pocket_rows::{collection_of_row, rec_of_row, token_of_row};
@@ -79,11 +82,20 @@ fn refused(alloc: Global) -> Result<String, Trouble> {
     Ok(String::from_str(alloc, "refused")?)
 }
 
+/// What is told of a collection and its row.
+fn told_collection(
+    alloc: Global,
+    collection: &Collection,
+    row: &KeptRow,
+) -> Result<String, Trouble> {
+    told_tree(alloc, &collection_jv(alloc, collection)?, row)
+}
+
 /// Whether a collection has this row.
 pub fn collection(alloc: Global, text: &str) -> Result<String, Trouble> {
     let row = row_of_line(alloc, text)?;
     match collection_of_row(alloc, &row)? {
-        Some(collection) => told_tree(alloc, &collection_jv(alloc, &collection)?, &row),
+        Some(collection) => told_collection(alloc, &collection, &row),
         None => refused(alloc),
     }
 }
@@ -118,16 +130,22 @@ fn told_rec(
     Ok(out)
 }
 
+/// What is told of the record of a row, of this collection.
+fn record_in(alloc: Global, collection: &Collection, text: &str) -> Result<String, Trouble>
+    requires { IsSoundCollection collection.now }
+{
+    let row = row_of_line(alloc, text)?;
+    match rec_of_row(alloc, collection, &row)? {
+        Some(rec) => told_rec(alloc, collection, &rec, &row),
+        None => refused(alloc),
+    }
+}
+
 /// What is told of the record of a row, of the collection whose row is given.
 pub fn record(alloc: Global, given: &Given, text: &str) -> Result<String, Trouble> {
-    let shelf = row_of_line(alloc, given.text("collection"))?;
-    let Some(collection) = collection_of_row(alloc, &shelf)? else {
-        return Err(Trouble::Case("the given row keeps no collection"));
-    };
-    let row = row_of_line(alloc, text)?;
-    match rec_of_row(alloc, &collection, &row)? {
-        Some(rec) => told_rec(alloc, &collection, &rec, &row),
-        None => refused(alloc),
+    match collection_of_row(alloc, &row_of_line(alloc, given.text("collection"))?)? {
+        Some(collection) => record_in(alloc, &collection, text),
+        None => Err(Trouble::Case("the given row keeps no collection")),
     }
 }
 
@@ -143,21 +161,31 @@ fn told_row(alloc: Global, again: &KeptRow, row: &KeptRow) -> Result<String, Tro
     Ok(line)
 }
 
+/// What is told of a token and its row.
+fn told_token(alloc: Global, token: &Token, row: &KeptRow) -> Result<String, Trouble> {
+    let again = row_of_token(alloc, &token.text, &token.collection, token.id, token.until)?;
+    told_row(alloc, &again, row)
+}
+
 /// Whether a token has this row.
 pub fn token(alloc: Global, text: &str) -> Result<String, Trouble> {
     let row = row_of_line(alloc, text)?;
-    let Some(token) = token_of_row(alloc, &row)? else {
-        return refused(alloc);
-    };
-    let again = row_of_token(alloc, &token.text, &token.collection, token.id, token.until)?;
-    told_row(alloc, &again, &row)
+    match token_of_row(alloc, &row)? {
+        Some(token) => told_token(alloc, &token, &row),
+        None => refused(alloc),
+    }
+}
+
+/// What is told of a plain collection and its row.
+fn told_plain(alloc: Global, collection: &Collection, row: &KeptRow) -> Result<String, Trouble> {
+    told_row(alloc, &row_of_collection(alloc, collection)?, row)
 }
 
 /// Whether a plain collection has this row: one that the program's own opening takes.
 pub fn plain_collection(alloc: Global, text: &str) -> Result<String, Trouble> {
     let row = row_of_line(alloc, text)?;
     match read_collection(alloc, &row)? {
-        Some(collection) => told_row(alloc, &row_of_collection(alloc, &collection)?, &row),
+        Some(collection) => told_plain(alloc, &collection, &row),
         None => refused(alloc),
     }
 }
@@ -170,16 +198,33 @@ fn held_text(rec: &Rec) -> &str {
     }
 }
 
+/// What is told of a plain record and its row: also what it holds.
+fn told_plain_rec(
+    alloc: Global,
+    collection: &Collection,
+    rec: &Rec,
+    row: &KeptRow,
+) -> Result<String, Trouble> {
+    let mut told = told_row(alloc, &row_of_rec(alloc, collection, rec)?, row)?;
+    told.push_str(": ")?;
+    told.push_str(held_text(rec))?;
+    Ok(told)
+}
+
+fn plain_record_in(alloc: Global, collection: &Collection, text: &str) -> Result<String, Trouble>
+    requires { IsPlainCollection collection.now }
+{
+    let row = row_of_line(alloc, text)?;
+    match read_rec(alloc, collection, &row)? {
+        Some(rec) => told_plain_rec(alloc, collection, &rec, &row),
+        None => refused(alloc),
+    }
+}
+
 /// What the record of this row holds, of the plain collection whose row is given.
 pub fn plain_record(alloc: Global, given: &Given, text: &str) -> Result<String, Trouble> {
-    let shelf = row_of_line(alloc, given.text("collection"))?;
-    let Some(collection) = read_collection(alloc, &shelf)? else {
-        return Err(Trouble::Case("the given row keeps no plain collection"));
-    };
-    let row = row_of_line(alloc, text)?;
-    let Some(rec) = read_rec(alloc, &collection, &row)? else {
-        return refused(alloc);
-    };
-    let told = told_row(alloc, &row_of_rec(alloc, &collection, &rec)?, &row)?;
-    Ok(format!(in alloc; "{told}: {}", held_text(&rec))?)
+    match read_collection(alloc, &row_of_line(alloc, given.text("collection"))?)? {
+        Some(collection) => plain_record_in(alloc, &collection, text),
+        None => Err(Trouble::Case("the given row keeps no plain collection")),
+    }
 }

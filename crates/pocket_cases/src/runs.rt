@@ -1,8 +1,11 @@
 // Whole runs: a command line, kept rows and an input, and what comes of them.
 use crate::given::Given;
+use crate::requests::source_of;
 use crate::rows::keeper_of_lines;
+use crate::texts::in_both_ways;
 use crate::trouble::Trouble;
 use pocket::{RunEnd, Status, Turn, run_plain};
+use pocket_keeper::MemoryKeeper;
 use pocket_ops::date_read;
 use pocket_types::Seq;
 use pocket_wire::{CountingDice, FixedClock, MemorySink, MemorySource};
@@ -38,16 +41,16 @@ fn numbers(alloc: Global, faults: &str, letter: char) -> Result<Vec<u64>, Troubl
     Ok(found)
 }
 
-/// An input in pieces of this size. Of the calls those behind `r` fail.
-fn source_of(
+/// The input of a plan. Of the reads those behind `r` fail.
+fn input_of(
     alloc: Global,
     input: &str,
     piece: &str,
     faults: &str,
 ) -> Result<MemorySource, Trouble> {
-    let size = piece.parse::<usize>().ok().ok_or("no size of pieces")?;
-    let bytes = Seq::from_vec(input.as_bytes().to_vec(alloc)?);
-    Ok(MemorySource::new(bytes, size.max(1), numbers(alloc, faults, 'r')?))
+    let piece = piece.parse::<usize>().ok().ok_or("no size of pieces")?;
+    let failing = numbers(alloc, faults, 'r')?;
+    Ok(source_of(alloc, input.as_bytes(), piece, failing)?)
 }
 
 /// Adds the place, the moment and the words of each turn.
@@ -93,37 +96,48 @@ fn told(
     Ok(text)
 }
 
+/// What comes of a run of these words between an input, an output and a keeper.
+fn run_between(
+    alloc: Global,
+    words: &[String],
+    source: &mut MemorySource,
+    sink: &mut MemorySink,
+    keeper: &mut MemoryKeeper,
+) -> Result<String, Trouble> {
+    let mut clock = FixedClock::new(date_read("2024-05-01 10:00").ok_or("no moment")?);
+    let mut dice = CountingDice::new(0);
+    let status = run_plain(alloc, words, source, sink, keeper, &mut clock, &mut dice);
+    told(alloc, &status, clock.calls, dice.calls, sink.bytes())
+}
+
+/// What comes of a run of these words over a keeper.
+fn run_over(
+    alloc: Global,
+    words: &[String],
+    input: &str,
+    plan: &str,
+    keeper: &mut MemoryKeeper,
+) -> Result<String, Trouble> {
+    let (piece, faults) = plan.split_once(' ').unwrap_or((plan, ""));
+    let mut source = input_of(alloc, input, piece, faults)?;
+    let mut sink = MemorySink::new(Seq::new(alloc), numbers(alloc, faults, 'w')?);
+    run_between(alloc, words, &mut source, &mut sink, keeper)
+}
+
 /// What comes of a run by a plan: the size of the pieces in which the input comes, and then the calls that fail, by their numbers: `r`
 /// reads, `w` writes and `l` loads.
 fn run(alloc: Global, setting: Setting<'_>, plan: &str) -> Result<String, Trouble> {
-    let (piece, faults) = plan.split_once(' ').unwrap_or((plan, ""));
-    let mut clock = FixedClock::new(date_read("2024-05-01 10:00").ok_or("no moment")?);
-    let mut dice = CountingDice::new(0);
     let words = words_of(alloc, setting.words)?;
-    let mut source = source_of(alloc, setting.input, piece, faults)?;
-    let mut sink = MemorySink::new(Seq::new(alloc), numbers(alloc, faults, 'w')?);
-    let mut keeper = keeper_of_lines(alloc, setting.rows, numbers(alloc, faults, 'l')?)?;
-    let status = run_plain(
-        alloc,
-        words.as_slice(),
-        &mut source,
-        &mut sink,
-        &mut keeper,
-        &mut clock,
-        &mut dice,
-    );
-    told(alloc, &status, clock.calls, dice.calls, sink.bytes())
+    let mut keeper = keeper_of_lines(alloc, setting.rows, numbers(alloc, plan, 'l')?)?;
+    run_over(alloc, words.as_slice(), setting.input, plan, &mut keeper)
 }
 
 /// What comes of a run by each of some plans.
 fn run_all(alloc: Global, setting: Setting<'_>, plans: &str) -> Result<String, Trouble> {
     let (first, others) = plans.split_once('/').unwrap_or((plans, ""));
-    let outcome = run(alloc, setting, first)?;
+    let mut outcome = run(alloc, setting, first)?;
     for plan in others.split('/').filter(|plan| !plan.is_empty()) {
-        let found = run(alloc, setting, plan)?;
-        if found != outcome {
-            return Ok(format!(in alloc; "{outcome}, but {found} by {plan}")?);
-        }
+        outcome = in_both_ways(alloc, outcome, run(alloc, setting, plan), plan)?;
     }
     Ok(outcome)
 }
@@ -138,21 +152,25 @@ pub fn pipe(alloc: Global, given: &Given, input: &str) -> Result<String, Trouble
     run_all(alloc, setting, given.text("plans"))
 }
 
-/// What comes of the given rows with a bad one in place of that of its key, alone and before another one.
-pub fn bad_row(alloc: Global, given: &Given, line: &str) -> Result<String, Trouble> {
-    let alone = format!(in alloc; "{}\n{line}", given.text("rows"))?;
-    let before = format!(in alloc; "{}\nt/z\n{line}", given.text("rows"))?;
+/// What comes of the given rows with these after them.
+fn run_with(alloc: Global, given: &Given, rows: &str) -> Result<String, Trouble> {
+    let rows = format!(in alloc; "{}\n{rows}", given.text("rows"))?;
     let setting = Setting {
         words: given.text("words"),
-        rows: alone.as_str(),
+        rows: rows.as_str(),
         input: "GET",
     };
-    let outcome = run(alloc, setting, "100000 r0 w0")?;
-    let rows = before.as_str();
-    let found = run(alloc, Setting { rows, ..setting }, "100000 r0 w0")?;
-    if found == outcome {
-        Ok(outcome)
-    } else {
-        Ok(format!(in alloc; "{outcome}, but {found} before t/z")?)
-    }
+    run(alloc, setting, "100000 r0 w0")
+}
+
+/// What comes of the given rows with a bad one and another one that stands later.
+fn run_before(alloc: Global, given: &Given, line: &str) -> Result<String, Trouble> {
+    let rows = format!(in alloc; "t/z\n{line}")?;
+    run_with(alloc, given, rows.as_str())
+}
+
+/// What comes of the given rows with a bad one in place of that of its key, alone and before another one.
+pub fn bad_row(alloc: Global, given: &Given, line: &str) -> Result<String, Trouble> {
+    let outcome = run_with(alloc, given, line)?;
+    in_both_ways(alloc, outcome, run_before(alloc, given, line), "before t/z")
 }

@@ -3,7 +3,8 @@ use crate::trouble::Trouble;
 use pocket_types::{Collection, Field, Kind, Name, Rule, Seq};
 use std::alloc::Global;
 
-fn name_of(alloc: Global, text: &str) -> Result<Name, Trouble> {
+/// The name of a text.
+pub fn name_of(alloc: Global, text: &str) -> Result<Name, Trouble> {
     Name::read(alloc, text).ok().ok_or(Trouble::Case("no name"))
 }
 

@@ -1,6 +1,7 @@
 // Calls over whole stores.
 ghost use Rattle.std.specs.Prelude.{IfOk};
 ghost use Rattle.pocket_keeper.specs.Rows.{IsRising};
+ghost use Rattle.pocket_store.specs.SoundStates.{IsSoundWorld};
 
 use crate::given::{Given, numbered};
 use crate::rows::{keeper_of_lines, push_row, row_of_line, rows_of_lines};
@@ -26,8 +27,15 @@ fn stored_lines(alloc: Global, lines: &str) -> Result<Stored, Trouble> {
 }
 
 /// The world that the rows of these lines stand for.
-pub fn world_of_lines(alloc: Global, lines: &str) -> Result<World, Trouble> {
+pub fn world_of_lines(alloc: Global, lines: &str) -> Result<World, Trouble>
+    ensures { IfOk result IsSoundWorld }
+{
     Ok(stored_of(alloc, &loaded(alloc, lines)?)?.world)
+}
+
+/// The shelves of that world.
+pub fn shelves_of_lines(alloc: Global, lines: &str) -> Result<Vec<Shelf>, Trouble> {
+    Ok(world_of_lines(alloc, lines)?.shelves.into_vec())
 }
 
 /// Why rows stand for nothing: `bad` and the key of the first bad one.
@@ -87,16 +95,21 @@ fn empty_collection(alloc: Global, name: &str) -> Result<KeptRow, AllocError> {
     row_of_line(alloc, line.as_str())
 }
 
+/// A row with a new text in place of an old one in its value.
+fn replaced(alloc: Global, row: &KeptRow, old: &str, new: &str) -> Result<KeptRow, Trouble> {
+    Ok(KeptRow {
+        key: row.key.clone()?,
+        value: Text::from_string(row.value.as_str().replace(alloc, old, new)?),
+    })
+}
+
 /// The row of a key with a new text in place of an old one in its value, as `KEY OLD -> NEW` says.
 fn edited(alloc: Global, rows: &[KeptRow], edit: &str) -> Result<KeptRow, Trouble> {
     let (key, edit) = edit.split_once(' ').ok_or("no key")?;
     let (old, new) = edit.split_once(" -> ").ok_or("no edit")?;
     for row in rows {
         if row.key.as_str() == key && row.value.as_str().contains(old) {
-            return Ok(KeptRow {
-                key: row.key.clone()?,
-                value: Text::from_string(row.value.as_str().replace(alloc, old, new)?),
-            });
+            return replaced(alloc, row, old, new);
         }
     }
     Err(Trouble::Case("nothing to edit"))
@@ -115,26 +128,60 @@ fn put_of(alloc: Global, rows: &[KeptRow], change: &str) -> Result<KeptRow, Trou
     }
 }
 
+/// Adds the row that a change puts, with a number in place of its marks.
+fn push_put(
+    puts: &mut Seq<KeptRow>,
+    alloc: Global,
+    rows: &[KeptRow],
+    change: &str,
+    number: u32,
+) -> Result<(), Trouble> {
+    let change = numbered(alloc, change, number)?;
+    Ok(puts.push(put_of(alloc, rows, change.as_str())?)?)
+}
+
 /// The rows that a change puts: so many where `40 times` stands before it, with 1, 2 and so on in place of its marks.
 fn puts_of(alloc: Global, rows: &[KeptRow], line: &str) -> Result<Seq<KeptRow>, Trouble> {
     let mut puts = Seq::new(alloc);
-    let Some((times, change)) = line.split_once(" times ") else {
-        puts.push(put_of(alloc, rows, line)?)?;
-        return Ok(puts);
-    };
-    for number in 0..times.parse::<u32>().ok().ok_or("no number of times")? {
-        let change = numbered(alloc, change, number.saturating_add(1))?;
-        puts.push(put_of(alloc, rows, change.as_str())?)?;
+    match line.split_once(" times ") {
+        Some((times, change)) => {
+            for number in 0..times.parse::<u32>().ok().ok_or("no number of times")? {
+                push_put(&mut puts, alloc, rows, change, number.saturating_add(1))?;
+            }
+        }
+        None => puts.push(put_of(alloc, rows, line)?)?,
     }
     Ok(puts)
 }
 
+/// Adds a row to the puts, or a key to the cuts, of one commit.
+fn add_change(
+    puts: &mut Seq<KeptRow>,
+    cuts: &mut Seq<Text>,
+    alloc: Global,
+    line: &str,
+) -> Result<(), Trouble> {
+    match line.strip_prefix("-") {
+        Some(key) => cuts.push(Text::from_str(alloc, key)?)?,
+        None => puts.push(put_of(alloc, &[], line)?)?,
+    }
+    Ok(())
+}
+
+/// Makes these changes in one commit: `+` puts a row, and `-` cuts that of a key.
+fn commit(alloc: Global, keeper: &mut MemoryKeeper, changes: &str) -> Result<(), Trouble> {
+    let mut puts = Seq::new(alloc);
+    let mut cuts = Seq::new(alloc);
+    for line in changes.lines() {
+        add_change(&mut puts, &mut cuts, alloc, line)?;
+    }
+    Ok(keeper.commit(alloc, &puts, &cuts)?)
+}
+
 /// Makes a change: `-` takes out the row of a key, all others put rows.
 fn change(alloc: Global, keeper: &mut MemoryKeeper, line: &str) -> Result<(), Trouble> {
-    if let Some(key) = line.strip_prefix("-") {
-        let mut cuts = Seq::new(alloc);
-        cuts.push(Text::from_str(alloc, key)?)?;
-        return Ok(keeper.commit(alloc, &Seq::new(alloc), &cuts)?);
+    if line.starts_with('-') {
+        return commit(alloc, keeper, line);
     }
     let puts = puts_of(alloc, keeper.rows(), line)?;
     Ok(keeper.commit(alloc, &puts, &Seq::new(alloc))?)
@@ -170,47 +217,53 @@ pub fn opened(alloc: Global, given: &Given, changes: &str) -> Result<String, Tro
     outcome_after(alloc, given, "", changes)
 }
 
+/// What comes of the given rows after these changes with one more before them.
+fn outcome_with(
+    alloc: Global,
+    given: &Given,
+    change: &str,
+    changes: &str,
+) -> Result<String, Trouble> {
+    let changes = format!(in alloc; "{change}\n{changes}")?;
+    outcome_after(alloc, given, given.text("rows"), changes.as_str())
+}
+
+/// The outcome, where the lesser of it and a bad row's own comes with that row, else both.
+fn with_bad_row(
+    alloc: Global,
+    outcome: String,
+    bad: &str,
+    found: Result<String, Trouble>,
+) -> Result<String, Trouble> {
+    let found = found?;
+    if found.as_str() == outcome.as_str().min(bad) {
+        Ok(outcome)
+    } else {
+        Ok(format!(in alloc; "{outcome}, but {found} with another row that is {bad}")?)
+    }
+}
+
 /// What comes of the given rows after these changes, also with an earlier bad row and with a later one, which are named where they come first.
 pub fn changed(alloc: Global, given: &Given, changes: &str) -> Result<String, Trouble> {
-    let rows = given.text("rows");
-    let outcome = outcome_after(alloc, given, rows, changes)?;
-    for (row, key) in &[("+c/0 {}", "bad c/0"), ("+z {}", "bad z")] {
-        let more = format!(in alloc; "{row}\n{changes}")?;
-        let found = outcome_after(alloc, given, rows, more.as_str())?;
-        if found.as_str() != outcome.as_str().min(*key) {
-            return Ok(format!(in alloc; "{outcome}, but {found} with {row}")?);
-        }
-    }
-    Ok(outcome)
+    let outcome = outcome_after(alloc, given, given.text("rows"), changes)?;
+    let found = outcome_with(alloc, given, "+c/0 {}", changes);
+    let outcome = with_bad_row(alloc, outcome, "bad c/0", found)?;
+    let found = outcome_with(alloc, given, "+z {}", changes);
+    with_bad_row(alloc, outcome, "bad z", found)
 }
 
-/// Adds a row to the puts, or a key to the cuts, of one commit.
-fn add_change(
-    puts: &mut Seq<KeptRow>,
-    cuts: &mut Seq<Text>,
-    alloc: Global,
-    line: &str,
-) -> Result<(), Trouble> {
-    match line.strip_prefix("-") {
-        Some(key) => cuts.push(Text::from_str(alloc, key)?)?,
-        None => puts.push(put_of(alloc, &[], line)?)?,
-    }
-    Ok(())
-}
-
-/// The rows after one commit to a keeper that is made of the given ones: `+` puts a row and `-` cuts that of a key.
-pub fn committed(alloc: Global, given: &Given, changes: &str) -> Result<String, Trouble> {
-    let rows = rows_of_lines(alloc, given.text("rows"))?;
-    let mut keeper = MemoryKeeper::new(alloc, rows, Vec::new(alloc))?;
-    let mut puts = Seq::new(alloc);
-    let mut cuts = Seq::new(alloc);
-    for line in changes.lines() {
-        add_change(&mut puts, &mut cuts, alloc, line)?;
-    }
-    keeper.commit(alloc, &puts, &cuts)?;
+/// The lines of the rows that are kept.
+fn kept_lines(alloc: Global, keeper: &mut MemoryKeeper) -> Result<String, Trouble> {
     let mut lines = String::new(alloc);
     for row in keeper.load(alloc)?.as_slice() {
         push_row(&mut lines, row)?;
     }
     Ok(lines)
+}
+
+/// The rows after one commit of these changes to a keeper that is made of the given ones.
+pub fn committed(alloc: Global, given: &Given, changes: &str) -> Result<String, Trouble> {
+    let mut keeper = keeper_of_lines(alloc, given.text("rows"), Vec::new(alloc))?;
+    commit(alloc, &mut keeper, changes)?;
+    kept_lines(alloc, &mut keeper)
 }

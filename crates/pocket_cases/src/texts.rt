@@ -2,11 +2,26 @@
 use crate::trouble::Trouble;
 use crate::values::moment_text;
 use pocket_json::{JsonFault, read_jv};
-use pocket_types::{Id, Jv, Moment, Name};
-use std::alloc::Global;
+use pocket_types::{Id, Jv, Moment, Name, Text};
+use std::alloc::{AllocError, Global};
 
 fn told(alloc: Global, good: bool) -> Result<String, Trouble> {
     Ok(String::from_str(alloc, if good { "ok" } else { "refused" })?)
+}
+
+/// The outcome, where the same came in another way, else both.
+pub fn in_both_ways(
+    alloc: Global,
+    outcome: String,
+    found: Result<String, Trouble>,
+    way: &str,
+) -> Result<String, Trouble> {
+    let found = found?;
+    if found == outcome {
+        Ok(outcome)
+    } else {
+        Ok(format!(in alloc; "{outcome}, but {found} {way}")?)
+    }
 }
 
 /// Whether a text is a name.
@@ -35,12 +50,21 @@ pub fn moment(alloc: Global, text: &str) -> Result<String, Trouble> {
     }
 }
 
+/// Whether a compact text is read back as a tree with this text.
+fn is_read_back(alloc: Global, text: &Text) -> Result<bool, AllocError> {
+    match read_jv(alloc, text.as_str().as_bytes()) {
+        Ok(again) => Ok(again.print(alloc)? == *text),
+        Err(_) => Ok(false),
+    }
+}
+
 /// A tree's compact text, where it is read back as a tree with this text.
 fn printed(alloc: Global, tree: &Jv) -> Result<String, Trouble> {
     let text = tree.print(alloc)?;
-    match read_jv(alloc, text.as_str().as_bytes()) {
-        Ok(again) if again.print(alloc)? == text => Ok(text.into_string()),
-        _ => Err(Trouble::Case("what is printed isn't read back")),
+    if is_read_back(alloc, &text)? {
+        Ok(text.into_string())
+    } else {
+        Err(Trouble::Case("what is printed isn't read back"))
     }
 }
 

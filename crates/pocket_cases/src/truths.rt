@@ -1,13 +1,13 @@
 // Calls that ask whether a rule holds of a record.
 use crate::askers::ask_of;
 use crate::given::Given;
-use crate::stores::world_of_lines;
+use crate::stores::{shelves_of_lines, world_of_lines};
 use crate::trouble::Trouble;
 use crate::values::told_flag;
 use pocket_filter::parse;
 use pocket_meaning::holds_slow;
 use pocket_resolve::{Purpose, resolve};
-use pocket_types::{Ask, Collection, Id, Name, Rec, Resolved, World};
+use pocket_types::{Ask, Collection, Expr, Id, Name, Rec, Resolved, World};
 use std::alloc::Global;
 
 /// `CALLER HOME/ID: RULE`, taken apart.
@@ -34,26 +34,54 @@ fn question_of(text: &str) -> Option<Question<'_>> {
 /// The collections of the rows of these lines.
 fn collections_of_lines(alloc: Global, lines: &str) -> Result<Vec<Collection>, Trouble> {
     let mut collections = Vec::new(alloc);
-    for shelf in world_of_lines(alloc, lines)?.shelves.into_vec() {
+    for shelf in shelves_of_lines(alloc, lines)? {
         collections.push(shelf.collection)?;
     }
     Ok(collections)
 }
 
+/// The names of a filter looked up for a purpose.
+fn looked_up(
+    alloc: Global,
+    collections: &[Collection],
+    purpose: &Purpose,
+    tree: &Expr,
+) -> Result<Resolved, Trouble> {
+    match resolve(alloc, collections, purpose, tree) {
+        Ok(filter) => Ok(filter),
+        Err(_) => Err(Trouble::Case("the rule isn't resolved")),
+    }
+}
+
+/// The filter of a text, as a rule of the collection of this name.
+pub fn filter_of(
+    alloc: Global,
+    collections: &[Collection],
+    home: &Name,
+    text: &str,
+) -> Result<Resolved, Trouble> {
+    let purpose = Purpose::RuleOf(home.clone()?);
+    match parse(alloc, text) {
+        Ok(tree) => looked_up(alloc, collections, &purpose, &tree),
+        Err(_) => Err(Trouble::Case("the rule isn't a filter")),
+    }
+}
+
 /// The rule of a text, for a collection among those that are given as `typed`.
 fn rule_of(alloc: Global, given: &Given, home: &Name, text: &str) -> Result<Resolved, Trouble> {
     let collections = collections_of_lines(alloc, given.text("typed"))?;
-    let purpose = Purpose::RuleOf(home.clone()?);
-    let tree = parse(alloc, text).ok().ok_or("the rule isn't a filter")?;
-    match resolve(alloc, collections.as_slice(), &purpose, &tree) {
-        Ok(rule) => Ok(rule),
-        Err(_) => Err(Trouble::Case("the rule isn't resolved")),
-    }
+    filter_of(alloc, collections.as_slice(), home, text)
 }
 
 /// The record of an id in the world.
 fn rec_of<'a>(world: &'a World, home: &Name, id: &str) -> Option<&'a Rec> {
     world.shelf(home)?.rec(Id::read(id)?)
+}
+
+/// The given world with the rows that are given as `beside`.
+fn world_beside(alloc: Global, given: &Given) -> Result<World, Trouble> {
+    let lines = format!(in alloc; "{}\n{}", given.text("world"), given.text("beside"))?;
+    world_of_lines(alloc, lines.as_str().trim_end())
 }
 
 /// Whether a rule holds of the record of an id, which stands in the given world or, where rows are given as `beside`, among them.
@@ -66,8 +94,7 @@ fn truth(
     rule: &Resolved,
 ) -> Result<bool, Trouble> {
     let world = world_of_lines(alloc, given.text("world"))?;
-    let lines = format!(in alloc; "{}\n{}", given.text("world"), given.text("beside"))?;
-    let asked = world_of_lines(alloc, lines.as_str().trim_end())?;
+    let asked = world_beside(alloc, given)?;
     let rec = rec_of(&asked, home, id).ok_or("no such record")?;
     Ok(holds_slow(alloc, &world, ask, home, rec, rule)?)
 }

@@ -24,7 +24,7 @@ fn text_of(alloc: Global, rest: &str) -> Result<Value, Trouble> {
 }
 
 /// The value of a word: `nothing`, a number, `true`, `false`, or a text between double quotes.
-fn value_of(alloc: Global, word: &str) -> Result<Value, Trouble> {
+pub fn value_of(alloc: Global, word: &str) -> Result<Value, Trouble> {
     match word {
         "nothing" => Ok(Value::Nothing),
         "true" => Ok(Value::Flag(true)),
@@ -57,19 +57,24 @@ const OPERATORS: [(&str, Op); 8] = [
     ("!~", Op::Unlike),
 ];
 
-/// The operators that are true of `LEFT | RIGHT`.
-pub fn compared(alloc: Global, text: &str) -> Result<String, Trouble> {
-    let (left, right) = text.split_once(" | ").ok_or("no | between two values")?;
-    let left = value_of(alloc, left)?;
-    let right = value_of(alloc, right)?;
+/// The operators that are true of two values.
+fn signs_of(alloc: Global, left: &Value, right: &Value) -> Result<String, AllocError> {
     let mut signs = String::new(alloc);
     for (sign, op) in &OPERATORS {
-        if compare(*op, &left, &right) {
+        if compare(*op, left, right) {
             signs.push_str(*sign)?;
             signs.push(' ')?;
         }
     }
     Ok(signs)
+}
+
+/// The operators that are true of `LEFT | RIGHT`.
+pub fn compared(alloc: Global, text: &str) -> Result<String, Trouble> {
+    let (left, right) = text.split_once(" | ").ok_or("no | between two values")?;
+    let left = value_of(alloc, left)?;
+    let right = value_of(alloc, right)?;
+    Ok(signs_of(alloc, &left, &right)?)
 }
 
 /// A flag as `true` or `false`.
@@ -200,14 +205,30 @@ fn field_of(alloc: Global, kind: Kind) -> Result<Field, Trouble> {
     })
 }
 
+/// Adds the number of items of a cell.
+fn push_count(told: &mut String, alloc: Global, cell: &Cell) -> Result<(), AllocError> {
+    told.push_str(" | ")?;
+    told.push_str(word_of(alloc, &count_value(cell))?.as_str())
+}
+
+/// The value of a cell and the number of its items.
+fn told_cell(alloc: Global, field: &Field, cell: &Cell) -> Result<String, AllocError> {
+    let mut told = word_of(alloc, &cell_value(alloc, field, cell)?)?;
+    push_count(&mut told, alloc, cell)?;
+    Ok(told)
+}
+
+/// What is told of the cell of a word in a field.
+fn told_in(alloc: Global, field: &Field, word: &str) -> Result<String, Trouble> {
+    let cell = cell_of(alloc, &field.kind, word)?;
+    Ok(told_cell(alloc, field, &cell)?)
+}
+
 /// The value and the number of items of `KIND | HELD`.
 pub fn cell(alloc: Global, text: &str) -> Result<String, Trouble> {
     let (kind, held) = text.split_once(" | ").ok_or("no | before what is held")?;
     let field = field_of(alloc, kind_of(alloc, kind)?)?;
-    let cell = cell_of(alloc, &field.kind, held)?;
-    let value = word_of(alloc, &cell_value(alloc, &field, &cell)?)?;
-    let count = word_of(alloc, &count_value(&cell))?;
-    Ok(format!(in alloc; "{value} | {count}")?)
+    told_in(alloc, &field, held)
 }
 
 /// The text of a moment.

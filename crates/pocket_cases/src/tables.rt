@@ -1,0 +1,273 @@
+// Calls over tables: reads, and records that are cut one after the other and then put back.
+ghost use Rattle.std.specs.Prelude.{◌≡◌, ◌<◌, IfOk, IfSome, IsTrue, OnOk, reverse};
+ghost use Rattle.std.specs.Option.{option_copied};
+ghost use Rattle.pocket_types.specs.declared.world.World.{World};
+ghost use Rattle.pocket_resolve.specs.Fields.{collection_named};
+ghost use Rattle.pocket_tables.specs.Deltas.{FitsWorld};
+ghost use Rattle.pocket_tables.specs.Following.{LeadTo};
+ghost use Rattle.pocket_tables.specs.Reads.{IsSingle};
+ghost use Rattle.pocket_tables.specs.Worlds.{collection_at};
+
+use crate::given::Given;
+use crate::rows::push_row;
+use crate::schemas::name_of;
+use crate::stores::world_of_lines;
+use crate::trouble::Trouble;
+use crate::values::value_of;
+use pocket_keeper::{row_of_collection, row_of_rec};
+use pocket_tables::laws::{record_changes_fit, sound_shelves_are_tabled};
+use pocket_tables::{Tables, apply_next, go_back, is_single};
+use pocket_types::{Collection, Delta, Id, LentShelf, Name, Rec, RecChange, Seq, Steps};
+use std::alloc::{AllocError, Global};
+use std::marker::Brand;
+use std::sync::ledger::{Blank, Ledger};
+
+/// The tables of the world that is given.
+pub fn tables_of(alloc: Global, given: &Given) -> Result<Tables, Trouble> {
+    sound_shelves_are_tabled();
+    let world = world_of_lines(alloc, given.text("world"))?;
+    Ok(Tables::build(alloc, world)?)
+}
+
+/// The id of a word, or none of `-`. None where the word is neither.
+fn after_of(word: &str) -> Option<Option<Id>> {
+    if word == "-" {
+        return Some(None);
+    }
+    Some(Some(Id::read(word)?))
+}
+
+/// The id of a record, or `none`.
+fn told_rec(alloc: Global, rec: Option<&Rec>) -> Result<String, Trouble> {
+    Ok(match rec {
+        Some(rec) => String::from_str(alloc, rec.id.as_str())?,
+        None => String::from_str(alloc, "none")?,
+    })
+}
+
+/// `COLLECTION ID`, read.
+fn read_rec<L: Ledger>(
+    alloc: Global,
+    tables: &Tables,
+    text: &str,
+    steps: &mut Steps<L>,
+) -> Result<String, Trouble> {
+    let (collection, id) = text.split_once(' ').ok_or("a word is missing")?;
+    let collection = name_of(alloc, collection)?;
+    let id = Id::read(id).ok_or("no id")?;
+    told_rec(alloc, tables.rec(&collection, id, steps))
+}
+
+/// `COLLECTION AFTER`, read.
+fn read_after<L: Ledger>(
+    alloc: Global,
+    tables: &Tables,
+    text: &str,
+    steps: &mut Steps<L>,
+) -> Result<String, Trouble> {
+    let (collection, after) = text.split_once(' ').ok_or("a word is missing")?;
+    let collection = name_of(alloc, collection)?;
+    let after = after_of(after).ok_or("no id")?;
+    told_rec(alloc, tables.rec_after(&collection, after, steps))
+}
+
+/// `COLLECTION FIELD AFTER ID`, read.
+fn read_referrer<L: Ledger>(
+    alloc: Global,
+    tables: &Tables,
+    text: &str,
+    steps: &mut Steps<L>,
+) -> Result<String, Trouble> {
+    let (collection, rest) = text.split_once(' ').ok_or("a word is missing")?;
+    let (field, rest) = rest.split_once(' ').ok_or("a word is missing")?;
+    let (after, target) = rest.split_once(' ').ok_or("a word is missing")?;
+    let collection = name_of(alloc, collection)?;
+    let field = name_of(alloc, field)?;
+    let after = after_of(after).ok_or("no id")?;
+    let target = Id::read(target).ok_or("no id")?;
+    told_rec(
+        alloc,
+        tables.referrer_after(&collection, &field, target, after, steps),
+    )
+}
+
+/// The collection of a name.
+pub fn named<'a>(collections: &'a [Collection], name: &Name) -> Option<&'a Collection>
+    ensures { option_copied result ≡ collection_named collections.now name.now }
+{
+    collections
+        .iter()
+        .find(|collection| collection.name == *name)
+}
+
+/// Whether records of a collection may be looked for by the value of a field.
+fn has_single(tables: &Tables, collection: &Name, field: &Name) -> bool
+    ensures { IsTrue result → IfSome (collection_at tables.now.world collection.now) (λ c. IsSingle c field.now) }
+{
+    match named(tables.collections(), collection) {
+        Some(found) => is_single(found, field),
+        None => false,
+    }
+}
+
+/// The first record above an id whose field has the value of a word.
+fn match_of<L: Ledger>(
+    alloc: Global,
+    tables: &Tables,
+    collection: &Name,
+    field: &Name,
+    after: Option<Id>,
+    word: &str,
+    steps: &mut Steps<L>,
+) -> Result<String, Trouble> {
+    if !has_single(tables, collection, field) {
+        return Err(Trouble::Case("the field may hold several items"));
+    }
+    let value = value_of(alloc, word)?;
+    told_rec(
+        alloc,
+        tables.match_after(collection, field, &value, after, steps),
+    )
+}
+
+/// `COLLECTION FIELD AFTER VALUE`, read.
+fn read_match<L: Ledger>(
+    alloc: Global,
+    tables: &Tables,
+    text: &str,
+    steps: &mut Steps<L>,
+) -> Result<String, Trouble> {
+    let (collection, rest) = text.split_once(' ').ok_or("a word is missing")?;
+    let (field, rest) = rest.split_once(' ').ok_or("a word is missing")?;
+    let (after, word) = rest.split_once(' ').ok_or("a word is missing")?;
+    let collection = name_of(alloc, collection)?;
+    let field = name_of(alloc, field)?;
+    let after = after_of(after).ok_or("no id")?;
+    match_of(alloc, tables, &collection, &field, after, word, steps)
+}
+
+fn read_by<L: Ledger>(
+    alloc: Global,
+    tables: &Tables,
+    way: &str,
+    text: &str,
+    blank: Blank,
+) -> Result<String, Trouble>
+    requires name { blank.name ≡ L.name }
+    requires parts { blank.parts ≡ L.parts }
+    requires some { 0 < L.parts }
+{
+    let mut steps = Steps::<L>::new(blank);
+    match way {
+        "rec" => read_rec(alloc, tables, text, &mut steps),
+        "after" => read_after(alloc, tables, text, &mut steps),
+        "referrer" => read_referrer(alloc, tables, text, &mut steps),
+        "match" => read_match(alloc, tables, text, &mut steps),
+        _ => Err(Trouble::Case("no such read")),
+    }
+}
+
+/// The id of the record that a read finds, or `none`.
+pub fn read(alloc: Global, given: &Given, text: &str) -> Result<String, Trouble> {
+    let tables = tables_of(alloc, given)?;
+    let (way, text) = text.split_once(' ').ok_or("a word is missing")?;
+    read_by::<Brand>(alloc, &tables, way, text, Blank::new(1))
+}
+
+fn push_lent(lines: &mut String, alloc: Global, shelf: LentShelf<'_>) -> Result<(), AllocError> {
+    push_row(lines, &row_of_collection(alloc, shelf.collection)?)?;
+    for rec in shelf.recs {
+        push_row(lines, &row_of_rec(alloc, shelf.collection, rec)?)?;
+    }
+    Ok(())
+}
+
+/// The rows of the tables' world.
+fn lines_of(alloc: Global, tables: &Tables) -> Result<String, AllocError> {
+    let mut lines = String::new(alloc);
+    for shelf in tables.lent(alloc)?.as_slice() {
+        push_lent(&mut lines, alloc, *shelf)?;
+    }
+    Ok(lines)
+}
+
+fn push_totals(told: &mut String, tables: &Tables) -> Result<(), AllocError> {
+    let totals = tables.totals();
+    write!(told, "{} {}; ", totals.records, totals.bytes)
+}
+
+/// The delta that cuts one record.
+fn cut_of(alloc: Global, collection: Name, id: Id) -> Result<Delta, AllocError>
+    ensures { IfOk result (λ delta. (w : World) → FitsWorld delta w) }
+{
+    record_changes_fit();
+    let mut recs = Seq::new(alloc);
+    recs.push(RecChange {
+        collection,
+        id,
+        after: None,
+    })?;
+    Ok(Delta {
+        shelves: Seq::new(alloc),
+        recs,
+    })
+}
+
+/// Cuts the record of a key, `COLLECTION/ID`, and tells the totals then.
+fn cut(
+    alloc: Global,
+    tables: &mut Tables,
+    inverses: &mut Vec<Delta>,
+    told: &mut String,
+    key: &str,
+) -> Result<(), Trouble>
+    ensures { OnOk result ((w : World) → LeadTo tables.old (reverse inverses.old.items) w → LeadTo tables.new (reverse inverses.new.items) w) }
+{
+    let (collection, id) = key.split_once('/').ok_or("no key of a record")?;
+    let id = Id::read(id).ok_or("no id")?;
+    let delta = cut_of(alloc, name_of(alloc, collection)?, id)?;
+    apply_next(alloc, tables, inverses, delta)?;
+    Ok(push_totals(told, tables)?)
+}
+
+/// Cuts the records of these keys, one after the other.
+fn cut_all(
+    alloc: Global,
+    tables: &mut Tables,
+    inverses: &mut Vec<Delta>,
+    told: &mut String,
+    keys: &str,
+) -> Result<(), Trouble>
+    ensures { OnOk result ((w : World) → LeadTo tables.old (reverse inverses.old.items) w → LeadTo tables.new (reverse inverses.new.items) w) }
+{
+    for key in keys.lines() {
+        cut(alloc, tables, inverses, told, key)?;
+    }
+    Ok(())
+}
+
+/// Cuts records one after the other and puts all back: the totals before, after each cut and at the end.
+fn told_cuts(alloc: Global, tables: &mut Tables, keys: &str) -> Result<String, Trouble> {
+    let mut told = String::new(alloc);
+    let mut inverses = Vec::new(alloc);
+    push_totals(&mut told, tables)?;
+    cut_all(alloc, tables, &mut inverses, &mut told, keys)?;
+    go_back(tables, inverses);
+    push_totals(&mut told, tables)?;
+    Ok(told)
+}
+
+/// Whether the tables' rows are these.
+fn has_lines(alloc: Global, tables: &Tables, lines: &String) -> Result<bool, AllocError> {
+    Ok(lines_of(alloc, tables)? == *lines)
+}
+
+/// What is told of records that are cut one after the other and put back, and whether the rows are then as they were.
+pub fn cut_and_back(alloc: Global, given: &Given, keys: &str) -> Result<String, Trouble> {
+    let mut tables = tables_of(alloc, given)?;
+    let before = lines_of(alloc, &tables)?;
+    let mut told = told_cuts(alloc, &mut tables, keys)?;
+    let same = has_lines(alloc, &tables, &before)?;
+    write!(&mut told, "as before: {same}")?;
+    Ok(told)
+}
