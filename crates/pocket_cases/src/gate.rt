@@ -202,11 +202,12 @@ fn seen<L: Ledger>(
     )
 }
 
+// The text is a `String`, as a call can give its own ledger only where no argument is a slice of a text.
 fn answered<L: Ledger>(
     alloc: Global,
     given: &Given,
-    call: &str,
-    text: &str,
+    asks_rule: bool,
+    text: &String,
     blank: Blank,
 ) -> Result<String, Trouble>
     requires name { blank.name ≡ L.name }
@@ -214,13 +215,15 @@ fn answered<L: Ledger>(
     requires some { 0 < L.parts }
 {
     let mut steps = Steps::<L>::new(blank);
-    match call {
-        "may" => judged(alloc, given, text, &mut steps),
-        _ => seen(alloc, given, text, &mut steps),
+    if asks_rule {
+        judged(alloc, given, text.as_str(), &mut steps)
+    } else {
+        seen(alloc, given, text.as_str(), &mut steps)
     }
 }
 
 /// What comes of a question to rules or guards.
 pub fn asked(alloc: Global, given: &Given, call: &str, text: &str) -> Result<String, Trouble> {
-    answered::<Brand>(alloc, given, call, text, Blank::new(1))
+    let text = String::from_str(alloc, text)?;
+    answered::<Brand>(alloc, given, call == "may", &text, Blank::new(1))
 }

@@ -146,11 +146,11 @@ fn read_match<L: Ledger>(
     match_of(alloc, tables, &collection, &field, after, word, steps)
 }
 
+// The text is a `String`, as a call can give its own ledger only where no argument is a slice of a text.
 fn read_by<L: Ledger>(
     alloc: Global,
     tables: &Tables,
-    way: &str,
-    text: &str,
+    text: &String,
     blank: Blank,
 ) -> Result<String, Trouble>
     requires name { blank.name ≡ L.name }
@@ -158,6 +158,7 @@ fn read_by<L: Ledger>(
     requires some { 0 < L.parts }
 {
     let mut steps = Steps::<L>::new(blank);
+    let (way, text) = text.as_str().split_once(' ').ok_or("no way to read")?;
     match way {
         "rec" => read_rec(alloc, tables, text, &mut steps),
         "after" => read_after(alloc, tables, text, &mut steps),
@@ -170,8 +171,8 @@ fn read_by<L: Ledger>(
 /// The id of the record that a read finds, or `none`.
 pub fn read(alloc: Global, given: &Given, text: &str) -> Result<String, Trouble> {
     let tables = tables_of(alloc, given)?;
-    let (way, text) = text.split_once(' ').ok_or("a word is missing")?;
-    read_by::<Brand>(alloc, &tables, way, text, Blank::new(1))
+    let text = String::from_str(alloc, text)?;
+    read_by::<Brand>(alloc, &tables, &text, Blank::new(1))
 }
 
 fn push_lent(lines: &mut String, alloc: Global, shelf: LentShelf<'_>) -> Result<(), AllocError> {
