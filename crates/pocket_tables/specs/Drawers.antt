@@ -28,7 +28,8 @@ pub record AreRising (drawers : List Drawer) : Type 0 where
 
 -- a place for all records, and one more for each that is put
 abbrev pub HasRecPlaces : List Drawer → List RecChange → Type 0
-HasRecPlaces drawers changes = (name : List ℕ) → length (recs_in drawers name) + places_wanted (rec_changes changes name) ≤ places_at (map room_of drawers) name
+HasRecPlaces drawers changes =
+    (name : List ℕ) → length (recs_in drawers name) + places_wanted (rec_changes changes name) ≤ places_at (map room_of drawers) name
 
 -- a name has a drawer
 abbrev pub HasDrawer : List Drawer → List ℕ → Type 0
