@@ -1,14 +1,17 @@
 -- What rows told before and after say of one another.
-use Rattle.std.proofs.Common.{◌≡◌, ℕ, List, Option, Some, None, refl, subst}
+use Rattle.std.proofs.Common.{ℕ, List, Option, Some, None, refl, sym, subst}
 use Rattle.pocket_keeper.specs.Keeping.{AreAsBefore, IfBothTold}
 use Rattle.pocket_keeper.specs.declared.rows.KeptRow.{KeptRow}
-use Rattle.pocket_core.specs.Opening.{IfTold, IsFirstBadRow, IsPlainWorld, IsWorldOf}
-use Rattle.pocket_core.specs.Starting.{IsStartFault}
-use Rattle.pocket_core.specs.States.{MachineState}
+use Rattle.pocket_store.specs.Stores.{IsFirstBadRow, IsStoreOf}
+use Rattle.pocket_core.specs.Opening.{AreRowsOf, IfTold, IsOpened, IsStartFault}
+use Rattle.pocket_core.specs.States.{StateView, stored_in}
 use Rattle.pocket_core.specs.declared.opening.StartFault.{StartFault}
 use Rattle.pocket_core.specs.declared.opening.StartFault.TheVariants.{KeeperFault, BadStore, Memory}
-use Rattle.pocket.specs.Runs.{IsOpeningOf, IsPipeEnd, end_of}
+use Rattle.pocket_wire.specs.declared.request.Ended.{Ended}
+use Rattle.pocket.specs.Runs.{IsOpeningOf, IsPipeEnd, OnSession, end_of}
 use Rattle.pocket.specs.Words.{IsPipe}
+use Rattle.pocket.specs.declared.status.RunEnd.{RunEnd}
+use Rattle.pocket.specs.declared.status.RunEnd.TheVariants as run
 
 -- rows that nobody touched are as before
 pub as_they_were : (rows : Option (List KeptRow)) → AreAsBefore rows rows
@@ -29,10 +32,29 @@ pipe_end words old new before now (BadStore key) same bad = told_before old new 
 pipe_end words old new before now Memory same wanting = tt
 
 -- the state that was opened
-pub opening_of : (words : List (List ℕ)) (old new : Option (List KeptRow)) (opening : MachineState) → AreAsBefore old new → IsPipe words opening.admin
-    → IsPlainWorld opening.world → IfTold new (λ told. IsWorldOf told opening.world) → IsOpeningOf words old new opening
-opening_of words old new opening same token plain kept = record {
-  token = token;
-  plain = plain;
-  kept = told_before old new (λ told. IsWorldOf told opening.world) same kept;
+pub opening_of : (words : List (List ℕ)) (old new : Option (List KeptRow)) (admin : List ℕ) (s : StateView) → AreAsBefore old new → IsPipe words admin
+    → IsOpened new admin s → IsOpeningOf words old new s.opening
+opening_of words old new admin s same token opened = record {
+  token = subst (IsPipe words) (sym opened.token) token;
+  clients = opened.clients;
+  sound = opened.sound;
+  kept = told_before old new (λ told. IsStoreOf told (stored_in s.opening)) same opened.kept;
 }
+
+-- its rows are those that are told
+pub rows_opened : (rows : Option (List KeptRow)) (admin : List ℕ) (s : StateView) → IsOpened rows admin s → AreRowsOf rows s.opening
+rows_opened None admin s opened = tt
+rows_opened (Some rows) admin s opened = opened.kept.same
+
+-- what is true of a session, and so more
+pub of_session : {P Q : Ended → Type 0} (end : RunEnd) → ((ended : Ended) → P ended → Q ended) → OnSession end P → OnSession end Q
+of_session (run.Session ended) more h = more ended h
+of_session run.Words more h = tt
+of_session run.KeeperFault more h = tt
+of_session (run.BadStore key) more h = tt
+of_session run.Memory more h = tt
+of_session run.SourceFault more h = tt
+of_session run.SinkFault more h = tt
+of_session (run.Faults count) more h = tt
+of_session run.BadInput more h = tt
+of_session run.NotEmpty more h = tt

@@ -1,24 +1,17 @@
 -- One request and its reply.
-use Rattle.std.proofs.Common.{◌≡◌, ◌⊎◌, inl, inr, ℕ, List, [], ◌∷◌, ◌++◌, Bool, true, false, Option, Some, None, length, refl, sym, ◌∙◌, ap, subst}
-use Rattle.std.specs.Prelude.{IsTrue}
+use Rattle.std.proofs.Common.{◌≡◌, ◌⊎◌, inl, inr, ℕ, List, [], ◌∷◌, ◌++◌, false, Option, Some, None, length, refl, sym, ◌∙◌, ap, subst}
 use Rattle.std.proofs.lemmas.List.{append-nil}
-use Rattle.pocket_types.specs.World.{shelf_named, rec_of}
+use Rattle.pocket_types.specs.declared.json.Jv.{Jv}
 use Rattle.pocket_types.specs.declared.moments.Moment.{Moment}
-use Rattle.pocket_types.specs.declared.requests.Caller.{Caller}
-use Rattle.pocket_types.specs.declared.records.Collection.{Collection}
-use Rattle.pocket_types.specs.declared.records.Rec.{Rec}
-use Rattle.pocket_types.specs.declared.world.Shelf.{Shelf}
-use Rattle.pocket_types.specs.declared.world.World.{World}
 use Rattle.pocket_wire.specs.declared.request.Request.{Request}
 use Rattle.pocket_wire.specs.declared.request.Ended.{Ended}
 use Rattle.pocket_wire.specs.declared.request.Ended.TheVariants.{Done, Memory}
-use Rattle.pocket_core.specs.Answers.{Answer, answer, call_answer, view_answer, rec_answer, keeps_out, IsAnswer, IsNoMemory, IsHistoryAfter}
-use Rattle.pocket_core.specs.Replies.{no_memory_text}
-use Rattle.pocket_core.specs.States.{MachineState, after, caller_of}
+use Rattle.pocket_core.specs.Answers.{Answer, answer, body_of, IsAnswer, IsNoMemory, IsHistoryAfter}
+use Rattle.pocket_core.specs.Replies.{body_text, no_memory_text, reply_text}
+use Rattle.pocket_core.specs.States.{MachineState}
+use Rattle.pocket_core.proofs.ReadingLemmas.{never_enters}
 use Rattle.pocket_core.specs.Works.{IsWorkOf}
 use Rattle.pocket_core.specs.declared.reply.Reply.{Reply}
-use Rattle.pocket_core.specs.declared.work.Call.{Call}
-use Rattle.pocket_core.specs.declared.work.Call.TheVariants.{NoRoute, View}
 use Rattle.pocket_core.specs.declared.work.Draw.{Draw}
 use Rattle.pocket_core.specs.declared.work.Work.{Work}
 use Rattle.pocket.specs.Drawing.{AddsAnswers, IsDrawn}
@@ -27,40 +20,19 @@ use Rattle.pocket.specs.Serving.{IsAnswered, IsUnanswered}
 use Rattle.pocket.specs.Sessions.{IsExchange, IsTurnOf, answer_text}
 use Rattle.pocket.specs.declared.status.Turn.{Turn}
 
--- ---- no call that is built so far enters its work
-
-rec_stays_out : (who : Caller) (c : Collection) (found : Option Rec) (at : ℕ) → (rec_answer who c found at).enters ≡ false
-rec_stays_out who c None at = refl
-rec_stays_out who c (Some rec) at = refl
-
-view_stays_out : (who : Caller) (found : Option Shelf) (id : List ℕ) (at : ℕ) → (view_answer who found id at).enters ≡ false
-view_stays_out who None id at = refl
-view_stays_out who (Some shelf) id at = by (keeps_out who shelf.collection.view_rule) refl
-  where
-    by : (b : Bool) → keeps_out who shelf.collection.view_rule ≡ b → (view_answer who (Some shelf) id at).enters ≡ false
-    by true e = rw e refl
-    by false e = rw e (rec_stays_out who shelf.collection (rec_of id shelf.recs) at)
-
-call_stays_out : (w : World) (who : Caller) (call : Call) (at : ℕ) → (call_answer w who call at).enters ≡ false
-call_stays_out w who NoRoute at = refl
-call_stays_out w who (View target shown) at = view_stays_out who (shelf_named target.collection w.shelves) target.id at
-
-pub stays_out : (opening : MachineState) (history : List Work) (work : Work) → (answer opening history work).enters ≡ false
-stays_out opening history work =
-    call_stays_out (after opening history).world (caller_of (after opening history) work.token) work.call (length history)
-
-pub never_enters : (opening : MachineState) (history : List Work) (work : Work) → IsTrue (answer opening history work).enters → ⊥
-never_enters opening history work h = let e = stays_out opening history work in cc
-
--- so the history stays
+-- no call that is built so far enters its work, so the history stays
 pub history_stays : (opening : MachineState) (old new : List Work) (work : Work) (reply : Reply)
     → IsHistoryAfter (answer opening old work) reply work old new → new ≡ old
 history_stays opening old new work reply h = h.other (λ e. never_enters opening old work e.1)
 
 -- ---- an exchange
 
+sent_body : (status : ℕ) (body : Option Jv) → sent_text status (body_of body) ≡ reply_text status (body_text (body_of body)) false
+sent_body status None = refl
+sent_body status (Some tree) = refl
+
 answered_text : (a : Answer) (reply : Reply) → IsAnswer a reply → sent_text reply.status reply.body ≡ answer_text a
-answered_text a reply is = rw (is.body, is.status) refl
+answered_text a reply is = rw (is.body, is.status) (sent_body a.status a.body)
 
 unanswered_text : (place : ℕ) (reply : Reply) → IsNoMemory place reply → sent_text reply.status reply.body ≡ no_memory_text false
 unanswered_text place reply is = rw is.body refl

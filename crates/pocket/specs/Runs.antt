@@ -1,11 +1,11 @@
 -- What a run comes to.
-use Rattle.std.specs.Prelude.{ℕ, List, Option, ⊤}
+use Rattle.std.specs.Prelude.{◌≡◌, ℕ, List, [], Option, ⊤}
 use Rattle.pocket_types.specs.Causes.{Rose}
 use Rattle.pocket_wire.specs.declared.request.Ended.{Ended}
 use Rattle.pocket_keeper.specs.Keeping.{IfBothTold}
 use Rattle.pocket_keeper.specs.declared.rows.KeptRow.{KeptRow}
-use Rattle.pocket_core.specs.Opening.{IsFirstBadRow, IsPlainWorld, IsWorldOf}
-use Rattle.pocket_core.specs.States.{MachineState}
+use Rattle.pocket_store.specs.Stores.{IsFirstBadRow, IsStoreOf}
+use Rattle.pocket_core.specs.States.{IsSoundState, MachineState, stored_in}
 use Rattle.pocket_core.specs.declared.opening.StartFault.{StartFault}
 use Rattle.pocket_core.specs.declared.opening.StartFault.TheVariants as start
 use Rattle.pocket.specs.Words.{IsPipe}
@@ -35,11 +35,12 @@ abbrev pub OnUnopened : RunEnd → Type 0 → Type 0
 OnUnopened (run.Session ended) P = ⊤
 OnUnopened _ P = P
 
--- the state that is opened: that of the rows told at first, where they are told to the end, with the token of the words
+-- the sound state that is opened: that of the rows told at first, where they are told to the end, with the token of the words and no clients
 pub record IsOpeningOf (words : List (List ℕ)) (old new : Option (List KeptRow)) (opening : MachineState) : Type 0 where
   pub token : IsPipe words opening.admin
-  pub plain : IsPlainWorld opening.world
-  pub kept : IfBothTold old new (λ told _. IsWorldOf told opening.world)
+  pub clients : opening.clients ≡ []
+  pub sound : IsSoundState opening
+  pub kept : IfBothTold old new (λ told _. IsStoreOf told (stored_in opening))
 
 -- the end that a fault of the opening makes
 abbrev pub end_of : StartFault → RunEnd

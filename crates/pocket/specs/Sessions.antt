@@ -5,8 +5,8 @@ use Rattle.pocket_wire.specs.Requests.{RequestsOf}
 use Rattle.pocket_wire.specs.declared.request.Ended.{Ended}
 use Rattle.pocket_wire.specs.declared.request.Ended.TheVariants.{Done, Closed, Refused, Truncated, Limit, SourceFault, SinkFault, Memory}
 use Rattle.pocket_wire.specs.declared.request.Request.{Request}
-use Rattle.pocket_core.specs.Answers.{Answer, answer}
-use Rattle.pocket_core.specs.Replies.{reply_text, no_memory_text}
+use Rattle.pocket_core.specs.Answers.{Answer, answer, body_of}
+use Rattle.pocket_core.specs.Replies.{body_text, reply_text, no_memory_text}
 use Rattle.pocket_core.specs.States.{MachineState}
 use Rattle.pocket_core.specs.Works.{IsWorkOf}
 use Rattle.pocket_core.specs.declared.work.Work.{Work}
@@ -14,7 +14,7 @@ use Rattle.pocket.specs.declared.status.Turn.{Turn}
 
 -- the reply that an answer is sent as
 abbrev pub answer_text : Answer → List ℕ
-answer_text a = reply_text a.status a.text false
+answer_text a = reply_text a.status (body_text (body_of a.body)) false
 
 -- a reply: that of the answer, or that memory is wanting
 abbrev pub IsReplyText : Answer → List ℕ → Type 0

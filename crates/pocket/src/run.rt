@@ -4,8 +4,9 @@ ghost use Rattle.std.specs.String.{string_bytes};
 ghost use Rattle.pocket_types.specs.Causes.{Rose, StaysUntold};
 ghost use Rattle.pocket_keeper.specs.Keeping.{AreAsBefore};
 ghost use Rattle.pocket_wire.specs.declared.request.Ended.TheVariants.{Done, SourceFault};
-ghost use Rattle.pocket_core.specs.Opening.{IfTold, IsWorldOf};
-ghost use Rattle.pocket_core.specs.States.{MachineState, after};
+ghost use Rattle.pocket_core.specs.Answers.{after};
+ghost use Rattle.pocket_core.specs.Opening.{AreRowsOf};
+ghost use Rattle.pocket_core.specs.States.{MachineState};
 ghost use Rattle.pocket.specs.Drawing.{IsDrawn};
 ghost use Rattle.pocket.specs.Runs.{IsOpeningOf, IsPipeEnd, OnSession, OnUnopened, end_of};
 ghost use Rattle.pocket.specs.Serving.{ReadsAll, Takes};
@@ -61,6 +62,7 @@ fn run_opened<S: Source, O: Sink, K: Committer, C: Clock, D: Dice, L: Ledger>(
     requires parts { blank.parts ≡ L.parts }
     requires some { 0 < L.parts }
     requires fresh { state.journal ≡ [] }
+    requires rows { AreRowsOf (K.rows keeper.old) state.opening }
     ensures session { OnSession result.ended (λ ended. (bytes : List ℕ) × (out : List ℕ)
         × Consumes (S.left source.old) (S.left source.new) bytes
         × (length bytes ≤ 16_896) × ReadsAll bytes (S.left source.new) ended
@@ -90,7 +92,7 @@ fn run_opened<S: Source, O: Sink, K: Committer, C: Clock, D: Dice, L: Ledger>(
 
 /// Runs the program that the words name, over bytes, a keeper, a clock and dice. So far that is `pipe --admin TOKEN
 /// --sample`, which answers the request of the source on the sink. It returns for every input.
-#[tactic(auto, using(crate::proofs::KeeperLemmas::as_they_were, crate::proofs::KeeperLemmas::pipe_end, crate::proofs::KeeperLemmas::opening_of))]
+#[tactic(auto, using(crate::proofs::KeeperLemmas::as_they_were, crate::proofs::KeeperLemmas::pipe_end))]
 pub fn run_plain<S: Source, O: Sink, K: Keeper, C: Clock, D: Dice>(
     alloc: Global,
     words: &[String],
@@ -113,7 +115,7 @@ pub fn run_plain<S: Source, O: Sink, K: Keeper, C: Clock, D: Dice>(
         × (length bytes ≤ 16_896) × ReadsAll bytes (S.left source.new) ended
         × IsSession opening result.journal result.turns bytes out ended
         × Takes (O.taken sink.old) (O.taken sink.new) (O.faults sink.old) (O.faults sink.new) out ended
-        × IfTold (K.rows keeper.new) (λ told. IsWorldOf told (after opening result.journal).world)) }
+        × AreRowsOf (K.rows keeper.new) (after opening result.journal)) }
     ensures draws { OnSession result.ended
         (IsDrawn (C.answers clock.old) (C.answers clock.new) (D.answers dice.old) (D.answers dice.new) result.turns) }
     ensures source_fault { OnSession result.ended (λ ended. ended ≡ SourceFault → Rose (S.faults source.old) (S.faults source.new)) }

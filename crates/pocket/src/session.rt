@@ -7,6 +7,7 @@ ghost use Rattle.pocket.specs.Drawing.{AddsAnswers, IsDrawn};
 ghost use Rattle.pocket.specs.Serving.{IsAnswered, IsUnanswered, ReadsAll, Takes};
 ghost use Rattle.pocket.specs.Sessions.{IsSession};
 ghost use Rattle.pocket_types.specs.Causes.{Rose};
+ghost use Rattle.pocket_core.specs.Opening.{AreRowsOf};
 
 use crate::status::Turn;
 use pocket_core::{Draw, Reply, ReplyBody, State, no_memory_reply, reply_bytes, work_of};
@@ -104,6 +105,7 @@ fn answer_request<O: Sink, K: Committer, C: Clock, D: Dice, L: Ledger>(
     request: &Request,
 ) -> Ended
     requires fresh { state.old.journal ≡ [] }
+    requires rows { AreRowsOf (K.rows keeper.old) state.old.opening }
     requires none { turns.old ≡ [] }
     ensures served { IsAnswered state.old.opening request.now turns.new (O.taken sink.old) (O.taken sink.new) (O.faults sink.old) (O.faults sink.new) result
         ⊎ IsUnanswered request.now turns.new (O.taken sink.old) (O.taken sink.new) (O.faults sink.old) (O.faults sink.new) result }
@@ -138,6 +140,7 @@ pub(crate) fn run_session<S: Source, O: Sink, K: Committer, C: Clock, D: Dice, L
     turns: &mut Seq<Turn>,
 ) -> Ended
     requires fresh { state.old.journal ≡ [] }
+    requires rows { AreRowsOf (K.rows keeper.old) state.old.opening }
     requires none { turns.old ≡ [] }
     ensures session { (bytes : List ℕ) × (out : List ℕ) × Consumes (S.left source.old) (S.left source.new) bytes
         × (length bytes ≤ 16_896) × ReadsAll bytes (S.left source.new) result

@@ -1,4 +1,5 @@
 pub mod HeaderLemmas
 pub mod FramingLemmas
 pub mod OpeningLemmas
-pub mod PlainStoreLemmas
+pub mod ReadingLemmas
+pub mod ViewLemmas

@@ -1,89 +1,116 @@
--- What the abstract machine answers.
-use Rattle.std.specs.Prelude.{◌≡◌, ℕ, Bool, true, false, ◌++◌, ◌∷◌, [], List, length, Option, Some, None, codes, if◌then◌else◌, IsTrue}
-use Rattle.std.specs.Fmt.{decimal}
+-- What the abstract machine answers, and what it becomes.
+use Rattle.std.specs.Prelude.{◌≡◌, ℕ, ◌+◌, nat_le, nat_lt, Bool, true, false, ◌&&◌, ◌||◌, List, [], ◌∷◌, ◌++◌, fold, length, Option, Some, None, Ok, Err, IsTrue}
+use Rattle.pocket_types.specs.Chains.{◌>>=◌, refuse}
 use Rattle.pocket_types.specs.Json.{printed}
-use Rattle.pocket_types.specs.World.{shelf_named, rec_of}
-use Rattle.pocket_types.specs.declared.records.Collection.{Collection}
-use Rattle.pocket_types.specs.declared.records.Rec.{Rec}
-use Rattle.pocket_types.specs.declared.records.Rule.{Rule}
-use Rattle.pocket_types.specs.declared.records.Rule.TheVariants as rule
-use Rattle.pocket_types.specs.declared.requests.Action.TheVariants as action
+use Rattle.pocket_types.specs.declared.json.Jv.{Jv}
+use Rattle.pocket_types.specs.declared.requests.Ask.{Ask}
 use Rattle.pocket_types.specs.declared.requests.Caller.{Caller}
-use Rattle.pocket_types.specs.declared.requests.Caller.TheVariants as caller
-use Rattle.pocket_types.specs.declared.world.Shelf.{Shelf}
+use Rattle.pocket_types.specs.declared.requests.Context.TheVariants as context
 use Rattle.pocket_types.specs.declared.world.World.{World}
-use Rattle.pocket_ops.specs.Trees.{rec_jv}
+use Rattle.pocket_core.specs.Outcomes.{Body, Empty, Enters, Outcome, Shows, Tally, Tree, is_entered, state_after}
+use Rattle.pocket_core.specs.Refusals.{refusal_jv, status_of}
+use Rattle.pocket_core.specs.States.{MachineState, sender}
+use Rattle.pocket_core.specs.Views.{view_outcome}
 use Rattle.pocket_core.specs.declared.reply.Reply.{Reply}
+use Rattle.pocket_core.specs.declared.reply.ReplyBody.{ReplyBody}
 use Rattle.pocket_core.specs.declared.reply.ReplyBody.TheVariants as reply_body
 use Rattle.pocket_core.specs.declared.reply.Why.{Why}
 use Rattle.pocket_core.specs.declared.reply.Why.TheVariants as why
 use Rattle.pocket_core.specs.declared.work.Call.{Call}
 use Rattle.pocket_core.specs.declared.work.Call.TheVariants as call
 use Rattle.pocket_core.specs.declared.work.Work.{Work}
-use Rattle.pocket_core.specs.States.{MachineState, caller_of, after}
 
--- an answer: its status, text and cause, its place in the history, and whether the work is entered there
+-- ---- outcomes
+
+-- what rules see of a work that sends no fields
+abbrev pub ask_of : Caller → Work → Ask
+ask_of who work = record {
+  caller = who;
+  method = work.method;
+  context = context.Default;
+  headers = work.headers;
+  query = work.query;
+  body = [];
+  moment = work.draw.moment;
+}
+
+-- the outcome of each call
+abbrev pub call_outcome : World → Ask → Call → Outcome
+call_outcome w ask call.NoRoute = Err why.NoRoute
+call_outcome w ask (call.View target shown) = view_outcome w ask target
+
+-- the outcome of a work in a state
+abbrev pub work_outcome : MachineState → Work → Outcome
+work_outcome s work = call_outcome s.world (ask_of (sender s work) work) work.call
+
+-- whether a history has no room for one more command
+abbrev pub is_full : Tally → Work → Bool
+is_full t work = nat_le 1000000 t.entries || nat_lt 268435456 (t.bytes + work.cost)
+
+-- the outcome of a work in a state, after so many commands: a full history refuses what would be entered, last of all
+unfoldable pub outcome : Tally → MachineState → Work → Outcome
+outcome t s work = do
+  done ← work_outcome s work
+  _ ← refuse (is_entered done && is_full t work) (why.HistoryFull t.entries (t.bytes + work.cost))
+  Ok done
+
+-- ---- histories
+
+-- one command more
+abbrev pub counted : Tally → Work → Tally
+counted t work = record { entries = t.entries + 1; bytes = t.bytes + work.cost }
+
+abbrev pub no_commands : Tally
+no_commands = record { entries = 0; bytes = 0 }
+
+abbrev pub tally_of : List Work → Tally
+tally_of history = fold counted no_commands history
+
+-- the state after more accepted commands
+abbrev pub after_from : Tally → MachineState → List Work → MachineState
+after_from t s [] = s
+after_from t s (work ∷ works) = after_from (counted t work) (state_after s (outcome t s work)) works
+
+-- the state after a history of accepted commands
+abbrev pub after : MachineState → List Work → MachineState
+after opening history = after_from no_commands opening history
+
+-- ---- answers
+
+-- an answer: its status, its body where it has one, its cause, its place in the history, and whether the work is entered there
 pub record Answer : Type 0 where
   pub status : ℕ
-  pub text : List ℕ
+  pub body : Option Jv
   pub why : Why
   pub at : ℕ
   pub enters : Bool
 
--- the text of a refusal
-abbrev pub refusal_text : List ℕ → ℕ → List ℕ
-refusal_text message status =
-    codes "{\"data\":{},\"message\":\"" ++ message ++ codes "\",\"status\":" ++ decimal status ++ codes "}"
+-- an accepted call: 200 with its body, or 204
+abbrev pub accepted_answer : Body → ℕ → Bool → Answer
+accepted_answer Empty at enters = record { status = 204; body = None; why = why.Done; at = at; enters = enters }
+accepted_answer (Tree tree) at enters = record { status = 200; body = Some tree; why = why.Done; at = at; enters = enters }
 
-abbrev pub not_found : Why → ℕ → Answer
-not_found cause at = record { status = 404; text = refusal_text (codes "Not found.") 404; why = cause; at = at; enters = false }
-
-abbrev pub forbidden : Why → ℕ → Answer
-forbidden cause at = record { status = 403; text = refusal_text (codes "Forbidden.") 403; why = cause; at = at; enters = false }
-
--- an answer that shows something and changes nothing
-abbrev pub shown : List ℕ → ℕ → Answer
-shown text at = record { status = 200; text = text; why = why.Done; at = at; enters = false }
-
--- rules aren't applied to the administrator, who sees hidden fields too
-abbrev pub is_admin : Caller → Bool
-is_admin caller.Admin = true
-is_admin _ = false
-
-abbrev pub is_locked : Rule → Bool
-is_locked rule.Locked = true
-is_locked _ = false
-
--- the record, where it is there
-abbrev pub rec_answer : Caller → Collection → Option Rec → ℕ → Answer
-rec_answer who collection None at = not_found why.NoRecord at
-rec_answer who collection (Some rec) at = shown (printed (rec_jv collection rec (is_admin who))) at
-
--- whether this rule keeps the caller out without a look at the record
-abbrev pub keeps_out : Caller → Rule → Bool
-keeps_out who r = if is_admin who then false else is_locked r
-
--- a view: the collection first, then its locked rule, then the record
-abbrev pub view_answer : Caller → Option Shelf → List ℕ → ℕ → Answer
-view_answer who None id at = not_found why.NoCollection at
-view_answer who (Some shelf) id at =
-    if keeps_out who shelf.collection.view_rule then forbidden (why.Locked shelf.collection.name action.View) at
-    else rec_answer who shelf.collection (rec_of id shelf.recs) at
-
--- the answer to a call in a world
-abbrev pub call_answer : World → Caller → Call → ℕ → Answer
-call_answer w who call.NoRoute at = not_found why.NoRoute at
-call_answer w who (call.View target shown) at = view_answer who (shelf_named target.collection w.shelves) target.id at
+-- the answer that an outcome is
+abbrev pub answer_of : ℕ → Outcome → Answer
+answer_of at (Ok (Shows body)) = accepted_answer body at false
+answer_of at (Ok (Enters s body)) = accepted_answer body at true
+answer_of at (Err cause) = record { status = status_of cause; body = Some (refusal_jv cause); why = cause; at = at; enters = false }
 
 -- the answer to a work after a history from an opened state
 abbrev pub answer : MachineState → List Work → Work → Answer
-answer opening history work =
-    let s = after opening history in call_answer s.world (caller_of s work.token) work.call (length history)
+answer opening history work = answer_of (length history) (outcome (tally_of history) (after opening history) work)
+
+-- ---- replies
+
+-- the body that a reply carries
+abbrev pub body_of : Option Jv → ReplyBody
+body_of None = reply_body.Empty
+body_of (Some tree) = reply_body.Made (printed tree)
 
 -- the reply is that answer
 pub record IsAnswer (a : Answer) (reply : Reply) : Type 0 where
   pub status : reply.status ≡ a.status
-  pub body : reply.body ≡ reply_body.Made a.text
+  pub body : reply.body ≡ body_of a.body
   pub why : reply.why ≡ a.why
   pub at : reply.at ≡ a.at
 
@@ -95,10 +122,10 @@ pub record IsNoMemory (place : ℕ) (reply : Reply) : Type 0 where
   pub at : reply.at ≡ place
 
 -- the reply enters its work: it is the answer, and the answer enters it
-abbrev pub Enters : Answer → Reply → Type 0
-Enters a reply = IsAnswer a reply × IsTrue a.enters
+abbrev pub EntersWork : Answer → Reply → Type 0
+EntersWork a reply = IsAnswer a reply × IsTrue a.enters
 
 -- the history after a call grew by the work exactly where the reply enters it
 pub record IsHistoryAfter (a : Answer) (reply : Reply) (work : Work) (old new : List Work) : Type 0 where
-  pub entered : Enters a reply → new ≡ old ++ work ∷ []
-  pub other : ¬ Enters a reply → new ≡ old
+  pub entered : EntersWork a reply → new ≡ old ++ work ∷ []
+  pub other : ¬ EntersWork a reply → new ≡ old

@@ -1,13 +1,20 @@
 -- What a state holds beside what contracts see of it.
-use Rattle.std.specs.Prelude.{◌≡◌}
-use Rattle.pocket_core.specs.States.{StateView, after}
-use Rattle.pocket_core.specs.Opening.{IsPlainWorld}
+use Rattle.std.specs.Prelude.{◌≡◌, []}
+use Rattle.pocket_types.specs.Within.{collections_of}
+use Rattle.pocket_gate.specs.Built.{rules_of}
+use Rattle.pocket_core.specs.Answers.{after}
+use Rattle.pocket_core.specs.States.{IsSoundState, MachineState, StateView, opened_state}
 use Rattle.pocket_core.specs.declared.state.State.TheInside.{Inside}
 
-abbrev pub view_of : Inside → StateView
-view_of s = record { opening = record { world = s.opening.value; admin = s.admin }; journal = s.journal }
+-- the state as it is now
+abbrev pub present : Inside → MachineState
+present s = record { world = s.tables.world; admin = s.admin; tokens = s.tokens; clients = [] }
 
--- the world and the token are those after the accepted commands, and the world is sound
+abbrev pub view_of : Inside → StateView
+view_of s = record { opening = opened_state s.opening.value s.admin; journal = s.journal }
+
+-- it is the state after the accepted commands, and sound, and its rules are those of its collections
 pub record IsKept (s : Inside) : Type 0 where
-  pub now : record { world = s.world; admin = s.admin } ≡ after (view_of s).opening s.journal
-  pub plain : IsPlainWorld s.world
+  pub now : present s ≡ after (view_of s).opening s.journal
+  pub sound : IsSoundState (present s)
+  pub rules : s.rules ≡ rules_of (collections_of s.tables.world)

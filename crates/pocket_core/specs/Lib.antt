@@ -1,8 +1,11 @@
 pub mod Answers
+pub mod Clients
+pub mod Faults
 pub mod Kept
 pub mod Opening
-pub mod Reading
+pub mod Outcomes
+pub mod Refusals
 pub mod Replies
-pub mod Starting
 pub mod States
+pub mod Views
 pub mod Works

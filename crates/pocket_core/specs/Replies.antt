@@ -2,14 +2,17 @@
 use Rattle.std.specs.Prelude.{ℕ, Bool, ◌==◌, ◌++◌, List, [], length, codes, if◌then◌else◌}
 use Rattle.std.specs.Fmt.{decimal}
 use Rattle.pocket_wire.specs.Phrases.{line_end, status_line}
-use Rattle.pocket_core.specs.Answers.{refusal_text}
 use Rattle.pocket_core.specs.declared.reply.ReplyBody.{ReplyBody}
 use Rattle.pocket_core.specs.declared.reply.ReplyBody.TheVariants.{Empty, NoMemory, Made}
+
+-- the text for want of memory: that of a refusal for this cause
+abbrev pub no_memory_body : List ℕ
+no_memory_body = codes "{\"data\":{},\"message\":\"Out of memory.\",\"status\":507}"
 
 -- the text that a body stands for
 abbrev pub body_text : ReplyBody → List ℕ
 body_text Empty = []
-body_text NoMemory = refusal_text (codes "Out of memory.") 507
+body_text NoMemory = no_memory_body
 body_text (Made text) = text
 
 -- the headers that say what the body is: none for 204
@@ -28,4 +31,4 @@ reply_text status text close =
 
 -- the fixed reply for want of memory
 abbrev pub no_memory_text : Bool → List ℕ
-no_memory_text close = reply_text 507 (refusal_text (codes "Out of memory.") 507) close
+no_memory_text close = reply_text 507 no_memory_body close

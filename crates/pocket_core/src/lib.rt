@@ -1,14 +1,18 @@
 //! The machine: a state is opened from kept rows, and answers one request at a time.
-//! `stored_of` opens stores of any collections; `State::load` is to stand on it.
+//!
+//! `specs/Answers.antt` is the abstract machine: what each call comes to, the state after a history, and the answer to a work. It
+//! stands on `specs/States.antt` (what a state is, and who sends a work) and `specs/Views.antt` (a view by rule).
 #![tactic(auto)]
 
+mod callers;
 mod framing;
 pub mod laws;
 mod opening;
+mod refusals;
 mod reply;
 mod routing;
 mod state;
-mod view;
+mod views;
 mod work;
 
 pub use framing::{REPLY_507, REPLY_507_CLOSE, no_memory_reply, reply_bytes};

@@ -1,12 +1,10 @@
-ghost use Rattle.std.specs.Prelude.{◌≡◌, All, IfOk, MatchBool, MatchOption, MatchResult};
-ghost use Rattle.pocket_keeper.specs.Plain.{LacksRec};
-ghost use Rattle.pocket_keeper.specs.Rows.{IsRising};
-ghost use Rattle.pocket_core.specs.Opening.{IsPlainShelf, IsWorldOf};
-ghost use Rattle.pocket_core.specs.Reading.{AddsRow, HoldsRecAt, IsFaultOf, LacksRow, NamesRow};
+// The fault of an opening.
+ghost use Rattle.std.specs.Prelude.{◌≡◌};
+ghost use Rattle.pocket_core.specs.Faults.{start_fault};
 
-use pocket_keeper::{KeptRow, read_collection, read_rec};
-use pocket_types::{Rec, Seq, Shelf, Text};
-use std::alloc::{AllocError, Global};
+use pocket_store::StoreFault;
+use pocket_types::Text;
+use std::alloc::AllocError;
 use thiserror::Error;
 
 /// Why a state couldn't be opened.
@@ -21,66 +19,25 @@ pub enum StartFault {
     Memory,
 }
 
-/// The record that a row holds, and the place of its shelf.
-fn find_rec_row(
-    alloc: Global,
-    shelves: &[Shelf],
-    row: &KeptRow,
-) -> Result<Option<(usize, Rec)>, AllocError>
-    requires { All IsPlainShelf shelves.now }
-    ensures { IfOk result (λ found. MatchOption found (All (λ s. LacksRec s.collection row.now) shelves.now)
-        (λ f. HoldsRecAt shelves.now f.0 f.1 row.now)) }
-{
-    for (at, shelf) in shelves.iter().enumerate() {
-        if let Some(rec) = read_rec(alloc, &shelf.collection, row)? {
-            return Ok(Some((at, rec)));
-        }
-    }
-    Ok(None)
-}
+impl From<StoreFault> for StartFault {
+    ghost use Rattle.pocket_core.specs.Faults.{start_fault};
 
-/// Adds what a row holds to the shelves. False where it holds nothing that may stand there.
-fn add_row(alloc: Global, shelves: &mut Vec<Shelf>, row: &KeptRow) -> Result<bool, AllocError>
-    requires { All IsPlainShelf shelves.old.items }
-    ensures { IfOk result (λ added. MatchBool added (AddsRow shelves.old.items row.now shelves.new.items)
-        (LacksRow shelves.old.items row.now)) }
-{
-    if let Some(collection) = read_collection(alloc, row)? {
-        let recs = Seq::new(alloc);
-        shelves.push(Shelf { collection, recs })?;
-        return Ok(true);
-    }
-    match find_rec_row(alloc, shelves, row)? {
-        Some((at, rec)) => {
-            shelves[at].recs.push(rec)?;
-            Ok(true)
+    ghost from_gives = { λ fault start. start ≡ start_fault fault };
+
+    fn from(fault: StoreFault) -> StartFault {
+        match fault {
+            StoreFault::BadStore(key) => StartFault::BadStore(key),
+            StoreFault::Memory => StartFault::Memory,
         }
-        None => Ok(false),
     }
 }
 
-/// The fault of a row that may not stand there.
-fn bad_store(row: &KeptRow) -> StartFault
-    ensures { NamesRow row.now result }
-{
-    match row.key.clone() {
-        Ok(key) => StartFault::BadStore(key),
-        Err(_) => StartFault::Memory,
-    }
-}
+impl From<AllocError> for StartFault {
+    ghost use Rattle.pocket_core.specs.declared.opening.StartFault.TheVariants.{Memory};
 
-/// The shelves that the rows stand for.
-pub(crate) fn read_rows(alloc: Global, rows: &[KeptRow]) -> Result<Vec<Shelf>, StartFault>
-    requires { IsRising rows.now }
-    ensures { MatchResult result (λ shelves. IsWorldOf rows.now (record { shelves = shelves.items })) (IsFaultOf rows.now) }
-{
-    let mut shelves = Vec::new(alloc);
-    for row in rows {
-        match add_row(alloc, &mut shelves, row) {
-            Ok(true) => {}
-            Ok(false) => return Err(bad_store(row)),
-            Err(_) => return Err(StartFault::Memory),
-        }
+    ghost from_gives = { λ _ fault. fault ≡ Memory };
+
+    fn from(_error: AllocError) -> StartFault {
+        StartFault::Memory
     }
-    Ok(shelves)
 }

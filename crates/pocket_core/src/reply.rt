@@ -20,6 +20,10 @@ pub enum Why {
     NoRecord,
     /// This collection's rule for this action is locked.
     Locked(Name, Action),
+    /// This collection's rule for this action doesn't hold of the record for this caller.
+    RuleFalse(Name, Action),
+    /// The history has no room for the command: the commands that it has, and the bytes with this one's.
+    HistoryFull(u64, u64),
     Memory,
 }
 

@@ -1,0 +1,55 @@
+-- A view of one record.
+use Rattle.std.specs.Prelude.{ℕ, Bool, true, false, not, ◌&&◌, List, Result, Ok, Err}
+use Rattle.pocket_types.specs.Chains.{◌>>=◌, or_refuse, refuse}
+use Rattle.pocket_types.specs.Within.{collections_of}
+use Rattle.pocket_types.specs.declared.records.Collection.{Collection}
+use Rattle.pocket_types.specs.declared.records.Rec.{Rec}
+use Rattle.pocket_types.specs.declared.records.Rule.{Rule}
+use Rattle.pocket_types.specs.declared.records.Rule.TheVariants as rule
+use Rattle.pocket_types.specs.declared.requests.Action.TheVariants as action
+use Rattle.pocket_types.specs.declared.requests.Ask.{Ask}
+use Rattle.pocket_types.specs.declared.requests.Caller.{Caller}
+use Rattle.pocket_types.specs.declared.world.World.{World}
+use Rattle.pocket_ops.specs.Trees.{rec_jv}
+use Rattle.pocket_resolve.specs.Fields.{collection_named}
+use Rattle.pocket_tables.specs.Worlds.{rec_at}
+use Rattle.pocket_gate.specs.Rules.{is_admin, verdict}
+use Rattle.pocket_gate.specs.declared.verdict.Verdict.{Verdict}
+use Rattle.pocket_gate.specs.declared.verdict.Verdict.TheVariants as verdict_is
+use Rattle.pocket_core.specs.Outcomes.{Outcome, Shows, Tree}
+use Rattle.pocket_core.specs.declared.reply.Why.{Why}
+use Rattle.pocket_core.specs.declared.reply.Why.TheVariants as why
+use Rattle.pocket_core.specs.declared.work.Target.{Target}
+
+abbrev pub is_locked : Rule → Bool
+is_locked rule.Locked = true
+is_locked _ = false
+
+-- whether a rule keeps the caller out, whatever the record
+abbrev pub keeps_out : Caller → Rule → Bool
+keeps_out who r = not (is_admin who) && is_locked r
+
+-- a verdict that keeps the caller out is the cause of a refusal
+abbrev pub admitted : Verdict → Result (Unit {0}) Why
+admitted verdict_is.Allowed = Ok tt
+admitted (verdict_is.Locked c act) = Err (why.Locked c act)
+admitted (verdict_is.RuleFalse c act) = Err (why.RuleFalse c act)
+
+-- a record whose rule lets the caller through is shown, with hidden fields for the administrator alone
+abbrev pub rec_outcome : World → Ask → Collection → Rec → Outcome
+rec_outcome w ask c r = do
+  _ ← admitted (verdict w ask action.View c r)
+  Ok (Shows (Tree (rec_jv c r (is_admin ask.caller))))
+
+-- the record of a collection, where it is there
+abbrev pub rec_named_outcome : World → Ask → Collection → List ℕ → Outcome
+rec_named_outcome w ask c id = do
+  r ← or_refuse (rec_at w c.name id) why.NoRecord
+  rec_outcome w ask c r
+
+-- a view: the collection first, then its locked rule, then the record, then what the rule says of it
+unfoldable pub view_outcome : World → Ask → Target → Outcome
+view_outcome w ask target = do
+  c ← or_refuse (collection_named (collections_of w) target.collection) why.NoCollection
+  _ ← refuse (keeps_out ask.caller c.view_rule) (why.Locked c.name action.View)
+  rec_named_outcome w ask c target.id

@@ -1,0 +1,176 @@
+// Views of records by rule.
+ghost use Rattle.std.specs.Prelude.{◌≡◌, ◌≤◌, false, IfOk, Ok, Some};
+ghost use Rattle.std.specs.Option.{option_copied};
+ghost use Rattle.pocket_types.specs.Within.{collections_of};
+ghost use Rattle.pocket_ops.specs.Trees.{rec_jv};
+ghost use Rattle.pocket_resolve.specs.Fields.{collection_named};
+ghost use Rattle.pocket_store.specs.SoundStates.{IsSoundWorld};
+ghost use Rattle.pocket_tables.specs.Worlds.{rec_at};
+ghost use Rattle.pocket_gate.specs.Built.{rules_of};
+ghost use Rattle.pocket_gate.specs.Rules.{is_admin};
+ghost use Rattle.pocket_core.specs.Answers.{IsAnswer, answer_of, call_outcome};
+ghost use Rattle.pocket_core.specs.Outcomes.{Shows, Tree};
+ghost use Rattle.pocket_core.specs.Views.{keeps_out, rec_named_outcome, rec_outcome, view_outcome};
+
+use crate::refusals::{refuse, text_of};
+use crate::reply::{Reply, ReplyBody, Why};
+use crate::work::{Call, Target};
+use pocket_gate::{Rules, Verdict};
+use pocket_ops::rec_jv;
+use pocket_tables::Tables;
+use pocket_types::{Action, Ask, Caller, Collection, Id, Name, Rec, Rule, Steps};
+use std::alloc::{AllocError, Global};
+use std::sync::ledger::Ledger;
+
+fn is_admin_caller(caller: &Caller) -> bool
+    ensures { result ≡ is_admin caller.now }
+{
+    matches!(caller, Caller::Admin)
+}
+
+fn is_locked_for(caller: &Caller, rule: &Rule) -> bool
+    ensures { result ≡ keeps_out caller.now rule.now }
+{
+    !is_admin_caller(caller) && matches!(rule, Rule::Locked)
+}
+
+/// The collection of this name.
+fn find_collection<'a>(collections: &'a [Collection], name: &str) -> Option<&'a Collection>
+    ensures { option_copied result ≡ collection_named collections.now name.now }
+{
+    collections
+        .iter()
+        .find(|collection| collection.name.as_str() == name)
+}
+
+/// The record of this id. A text that isn't an id's form is no record's.
+fn find_rec<'a, L: Ledger>(
+    tables: &'a Tables,
+    collection: &Name,
+    id: &str,
+    steps: &mut Steps<L>,
+) -> Option<&'a Rec>
+    requires { IsSoundWorld tables.now.world }
+    ensures rec { option_copied result ≡ rec_at tables.now.world collection.now id.now }
+    ensures steps { steps.old ≤ steps.new }
+{
+    match Id::read(id) {
+        Some(id) => tables.rec(collection, id, steps),
+        None => None,
+    }
+}
+
+/// The record as its caller is shown it.
+fn show(
+    alloc: Global,
+    caller: &Caller,
+    collection: &Collection,
+    rec: &Rec,
+    at: u64,
+) -> Result<Reply, AllocError>
+    ensures { IfOk result (IsAnswer (answer_of at (Ok (Shows (Tree (rec_jv collection.now rec.now (is_admin caller.now))))))) }
+{
+    let tree = rec_jv(alloc, collection, rec, is_admin_caller(caller))?;
+    Ok(Reply {
+        status: 200,
+        body: ReplyBody::Made(text_of(alloc, tree)?),
+        at,
+        why: Why::Done,
+    })
+}
+
+/// A view of a record, by what its rule says.
+fn answer_rec<L: Ledger>(
+    alloc: Global,
+    tables: &Tables,
+    rules: &Rules,
+    ask: &Ask,
+    collection: &Collection,
+    rec: &Rec,
+    at: u64,
+    steps: &mut Steps<L>,
+) -> Result<Reply, AllocError>
+    requires rules { rules.now ≡ rules_of (collections_of tables.now.world) }
+    requires there { collection_named (collections_of tables.now.world) collection.now.name ≡ Some collection.now }
+    ensures reply { IfOk result (IsAnswer (answer_of at (rec_outcome tables.now.world ask.now collection.now rec.now))) }
+    ensures steps { steps.old ≤ steps.new }
+{
+    let name = &collection.name;
+    match rules.may(alloc, tables, ask, Action::View, name, rec, steps)? {
+        Verdict::Allowed => show(alloc, &ask.caller, collection, rec, at),
+        Verdict::Locked(name, action) => refuse(alloc, Why::Locked(name, action), at),
+        Verdict::RuleFalse(name, action) => refuse(alloc, Why::RuleFalse(name, action), at),
+    }
+}
+
+/// A view of a collection's record of an id.
+fn answer_id<L: Ledger>(
+    alloc: Global,
+    tables: &Tables,
+    rules: &Rules,
+    ask: &Ask,
+    collection: &Collection,
+    id: &str,
+    at: u64,
+    steps: &mut Steps<L>,
+) -> Result<Reply, AllocError>
+    requires sound { IsSoundWorld tables.now.world }
+    requires rules { rules.now ≡ rules_of (collections_of tables.now.world) }
+    requires there { collection_named (collections_of tables.now.world) collection.now.name ≡ Some collection.now }
+    ensures reply { IfOk result (IsAnswer (answer_of at (rec_named_outcome tables.now.world ask.now collection.now id.now))) }
+    ensures steps { steps.old ≤ steps.new }
+{
+    match find_rec(tables, &collection.name, id, steps) {
+        Some(rec) => answer_rec(alloc, tables, rules, ask, collection, rec, at, steps),
+        None => refuse(alloc, Why::NoRecord, at),
+    }
+}
+
+/// A view: the collection first, then its locked rule, then the record, then what the rule says of it.
+fn answer_view<L: Ledger>(
+    alloc: Global,
+    tables: &Tables,
+    rules: &Rules,
+    ask: &Ask,
+    target: &Target,
+    at: u64,
+    steps: &mut Steps<L>,
+) -> Result<Reply, AllocError>
+    requires sound { IsSoundWorld tables.now.world }
+    requires rules { rules.now ≡ rules_of (collections_of tables.now.world) }
+    ensures reply { IfOk result (IsAnswer (answer_of at (view_outcome tables.now.world ask.now target.now))) }
+    ensures steps { steps.old ≤ steps.new }
+{
+    let Some(collection) = find_collection(tables.collections(), target.collection.as_str()) else {
+        return refuse(alloc, Why::NoCollection, at);
+    };
+    if is_locked_for(&ask.caller, &collection.view_rule) {
+        let name = collection.name.clone()?;
+        return refuse(alloc, Why::Locked(name, Action::View), at);
+    }
+    let id = target.id.as_str();
+    answer_id(alloc, tables, rules, ask, collection, id, at, steps)
+}
+
+/// The answer to a call.
+pub(crate) fn answer_call<L: Ledger>(
+    alloc: Global,
+    tables: &Tables,
+    rules: &Rules,
+    ask: &Ask,
+    call: &Call,
+    at: u64,
+    steps: &mut Steps<L>,
+) -> Result<Reply, AllocError>
+    requires sound { IsSoundWorld tables.now.world }
+    requires rules { rules.now ≡ rules_of (collections_of tables.now.world) }
+    ensures reply { IfOk result (IsAnswer (answer_of at (call_outcome tables.now.world ask.now call.now))) }
+    ensures steps { steps.old ≤ steps.new }
+{
+    match call {
+        Call::NoRoute => refuse(alloc, Why::NoRoute, at),
+        Call::View { target, shown: _ } => answer_view(
+            alloc, tables, rules, ask, target, at, steps,
+        ),
+    }
+}
