@@ -1,8 +1,6 @@
-use pocket::sample_rows;
 use pocket_keeper::KeptRow;
 use pocket_types::{Seq, Text};
 use std::alloc::{AllocError, Global};
-use std::test::Fail;
 
 /// The row of a line: its key, a space and its value.
 pub fn row_of_line(alloc: Global, line: &str) -> Result<KeptRow, AllocError> {
@@ -37,21 +35,4 @@ pub fn lines_of(alloc: Global, rows: &[KeptRow]) -> Result<String, AllocError> {
         add_row(&mut lines, row)?;
     }
     Ok(lines)
-}
-
-/// The sample's rows, rising by key: a line is a key, a space and a value.
-fn sample() -> &'static str {
-    r##"c/drafts {"createRule":null,"deleteRule":null,"fields":[{"hidden":false,"max":5000,"min":0,"name":"text","required":false,"type":"text","unique":false}],"listRule":null,"name":"drafts","type":"base","updateRule":null,"viewRule":null}
-c/logs {"createRule":null,"deleteRule":null,"fields":[{"hidden":false,"max":5000,"min":0,"name":"line","required":false,"type":"text","unique":false}],"listRule":null,"name":"logs","type":"base","updateRule":null,"viewRule":null}
-c/notes {"createRule":"","deleteRule":"","fields":[{"hidden":false,"max":5000,"min":0,"name":"text","required":false,"type":"text","unique":false}],"listRule":"","name":"notes","type":"base","updateRule":"","viewRule":""}
-r/logs/log000000000001 {"created":"2024-01-01 00:00:00.000Z","line":"boot","updated":"2024-01-01 00:00:00.000Z"}
-r/notes/note00000000001 {"created":"2024-01-01 00:00:00.000Z","text":"hello","updated":"2024-01-01 00:00:00.000Z"}
-"##
-}
-
-#[test]
-fn the_sample_has_its_rows(rt: HostRuntime) -> Result<(), Fail> {
-    let rows = sample_rows(rt.alloc())?;
-    assert_eq!(rt; lines_of(rt.alloc(), rows.as_slice())?.as_str(), sample());
-    Ok(())
 }
