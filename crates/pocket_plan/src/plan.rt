@@ -52,8 +52,8 @@ impl Plan {
     /// Whether the filter holds of a record, for a request: in the tables' world, or in what the guard leaves of it. Under a guard
     /// the record that is judged stays, without its hidden fields, whether or not the guard admits it.
     ///
-    /// The record need not stand in the tables. Members are judged as they are met, so that the work under a guard grows with the
-    /// records that the filter's paths lead to.
+    /// The record need not stand in the tables. Views are asked of the members that the filter's paths lead to, as they are met, and of
+    /// no other record; to find them, the shelves that the paths lead to are gone through.
     pub fn test<L: Ledger>(
         &self,
         alloc: Global,
