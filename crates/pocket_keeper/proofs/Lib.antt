@@ -1,10 +1,3 @@
-pub mod EscapeForms
 pub mod KeepingLemmas
+pub mod KeyLemmas
 pub mod PlaceLemmas
-pub mod PlainDates
-pub mod PlainForms
-pub mod PlainRecs
-pub mod PlainRows
-pub mod PlainTexts
-pub mod Printing
-pub mod Steps

@@ -1,5 +1,5 @@
 -- The rows that keep collections, records and tokens.
-use Rattle.std.specs.Prelude.{ℕ, ℤ, List, [], ◌∷◌, ◌++◌, codes}
+use Rattle.std.specs.Prelude.{ℕ, ℤ, ◌<◌, ◌≢◌, List, [], ◌∷◌, ◌++◌, length, slice_index, codes}
 use Rattle.pocket_types.specs.declared.json.Jv.{Jv}
 use Rattle.pocket_types.specs.declared.records.Collection.{Collection}
 use Rattle.pocket_types.specs.declared.records.Rec.{Rec}
@@ -9,6 +9,10 @@ use Rattle.pocket_types.specs.Maps.{map_jv}
 use Rattle.pocket_ops.specs.Trees.{text_jv, collection_jv, kept_jv}
 use Rattle.pocket_keeper.specs.declared.rows.KeptRow.{KeptRow}
 use Rattle.pocket_keeper.specs.declared.tokens.Token.{Token}
+
+-- the byte stands nowhere in the text
+abbrev pub HasNoByte : ℕ → List ℕ → Type 0
+HasNoByte b text = (i : ℕ) → i < length text → slice_index text i ≢ b
 
 -- the key of a collection's row: `c/` and its name
 abbrev pub collection_key : List ℕ → List ℕ

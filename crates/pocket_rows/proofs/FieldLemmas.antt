@@ -57,14 +57,6 @@ name_is t h = ap (λ b. if b then Some t else None) h
 field_name_is : (t : List ℕ) → IsFieldName t → field_name_of t ≡ Some t
 field_name_is t h = ap (λ b. if b then None else name_of t) h.1 ∙ name_is t h.0
 
-pub field_name_by : (t : List ℕ) (found : Option (List ℕ)) → MatchOption found (¬ IsFieldName t) (λ name. (name ≡ t) × IsFieldName t) → found ≡ field_name_of t
-field_name_by t (Some name) h = ap (λ t. Some t) h.0 ∙ sym (field_name_is t h.1)
-field_name_by t None h = by (is_reserved t) refl (is_name t) refl
-  where
-    by : (r : Bool) → is_reserved t ≡ r → (n : Bool) → is_name t ≡ n → None ≡ (if r then None else if n then Some t else None)
-    by true e n f = refl
-    by false e true f = absurd (h (f, e))
-    by false e false f = refl
 
 -- ---- the names of fields
 

@@ -32,7 +32,7 @@ use Rattle.pocket_ops.specs.Trees.{bound_jv, cell_jv, collection_jv, collection_
 use Rattle.pocket_ops.proofs.DigitLemmas.{IsUtf8-civil_text}
 use Rattle.pocket_keeper.specs.Texts.{token_members}
 use Rattle.pocket_keeper.specs.declared.tokens.Token.{Token}
-use Rattle.pocket_keeper.proofs.Printing.{name_words}
+use Rattle.pocket_keeper.proofs.KeyLemmas.{name_words}
 use Rattle.pocket_rows.specs.SoundTokens.{IsSoundToken}
 use Rattle.pocket_rows.proofs.MemberLemmas.{Entries}
 use Rattle.pocket_rows.proofs.MomentLemmas.{civil_of-form}

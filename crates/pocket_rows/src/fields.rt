@@ -3,21 +3,35 @@ ghost use Rattle.std.specs.Prelude.{◌≡◌, ◌≢◌, ◌↔◌, codes, IfOk
 ghost use Rattle.pocket_rows.specs.Cells.{AreShallow};
 ghost use Rattle.pocket_rows.specs.CollectionReading.{ReadsFields};
 ghost use Rattle.pocket_rows.specs.FieldReading.{field_at, field_name_at, field_name_of, field_read, read_all, unique_at};
-ghost use Rattle.pocket_types.specs.Sound.{IsCellTree};
+ghost use Rattle.pocket_types.specs.Sound.{IsCellTree, is_reserved};
 
 use crate::kinds::{kind_of, may_be_unique};
 use crate::members::value_under;
-use crate::scalars::flag_under;
-use pocket_keeper::field_name_of;
+use crate::scalars::{flag_under, name_of};
 use pocket_types::{Field, Jv, Kind, Member, Name, Seq};
 use std::alloc::{AllocError, Global};
 use std::collections::BTreeSet;
+
+/// Whether no field may have the name.
+fn is_reserved(name: &str) -> bool
+    ensures { result ≡ is_reserved name.now }
+{
+    let id = name == "id";
+    let created = name == "created";
+    let updated = name == "updated";
+    let collection = name == "collectionName";
+    let expand = name == "expand";
+    id || created || updated || collection || expand
+}
 
 /// The name of a field that a text spells. None exactly where no field may have this name.
 fn field_name(alloc: Global, text: &str) -> Result<Option<Name>, AllocError>
     ensures { IfOk result (λ found. found ≡ field_name_of text.now) }
 {
-    field_name_of(alloc, text)
+    if is_reserved(text) {
+        return Ok(None);
+    }
+    name_of(alloc, text)
 }
 
 /// The name of the field.

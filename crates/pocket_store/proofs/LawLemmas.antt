@@ -7,8 +7,7 @@ use Rattle.pocket_types.specs.declared.world.Shelf.{Shelf}
 use Rattle.pocket_keeper.specs.Texts.{collection_row, rec_key, rec_row, token_row}
 use Rattle.pocket_keeper.specs.declared.rows.KeptRow.{KeptRow}
 use Rattle.pocket_keeper.specs.declared.tokens.Token.{Token}
-use Rattle.pocket_keeper.proofs.Printing.{name_lacks_slash}
-use Rattle.pocket_keeper.proofs.Steps.{word_next}
+use Rattle.pocket_keeper.proofs.KeyLemmas.{name_lacks_slash, word_next}
 use Rattle.pocket_types.specs.Sound.{IsSoundRec}
 use Rattle.pocket_rows.specs.SoundTokens.{IsSoundToken}
 use Rattle.pocket_rows.proofs.CollectionLemmas.{collection_once}

@@ -9,12 +9,11 @@ use Rattle.pocket_types.proofs.OrderLemmas.{before_from_append, rises_nil, rises
 use Rattle.pocket_types.specs.declared.names.Name.{Name}
 use Rattle.pocket_types.specs.declared.records.Collection.{Collection}
 use Rattle.pocket_types.specs.declared.records.Rec.{Rec}
-use Rattle.pocket_keeper.specs.Parts.{HasNoByte}
+use Rattle.pocket_keeper.specs.Texts.{HasNoByte}
 use Rattle.pocket_keeper.specs.Rows.{IsRising}
 use Rattle.pocket_keeper.specs.Texts.{collection_row, rec_key, rec_row}
 use Rattle.pocket_keeper.specs.declared.rows.KeptRow.{KeptRow}
-use Rattle.pocket_keeper.proofs.Printing.{name_lacks_slash}
-use Rattle.pocket_keeper.proofs.Steps.{word_next}
+use Rattle.pocket_keeper.proofs.KeyLemmas.{name_lacks_slash, word_next}
 use Rattle.pocket_store.specs.Reading.{AddsCollection, IsPlaceOf, IsGoodRecAt}
 use Rattle.pocket_rows.specs.RowReading.{KeepsCollection, KeepsNoCollection, KeepsNoRec, KeepsRec}
 use Rattle.pocket_types.specs.Sound.{IsSoundCollection}

@@ -19,7 +19,7 @@ use Rattle.pocket_types.specs.declared.records.Rec.{Rec}
 use Rattle.pocket_types.specs.declared.world.Shelf.{Shelf}
 use Rattle.pocket_keeper.specs.Texts.{rec_row}
 use Rattle.pocket_keeper.specs.declared.rows.KeptRow.{KeptRow}
-use Rattle.pocket_keeper.proofs.Printing.{name_words}
+use Rattle.pocket_keeper.proofs.KeyLemmas.{name_words}
 use Rattle.pocket_ops.specs.Lengths.{row_len}
 use Rattle.pocket_rows.proofs.Utf8Lemmas.{first_word, later_words}
 use Rattle.pocket_store.specs.Drafts.{shelf_len}

@@ -22,8 +22,7 @@ use Rattle.pocket_keeper.specs.Rows.{IsRising}
 use Rattle.pocket_keeper.specs.Texts.{collection_row, rec_key, rec_row, token_row}
 use Rattle.pocket_keeper.specs.declared.rows.KeptRow.{KeptRow}
 use Rattle.pocket_keeper.specs.declared.tokens.Token.{Token}
-use Rattle.pocket_keeper.proofs.Printing.{name_lacks_slash}
-use Rattle.pocket_keeper.proofs.Steps.{word_next}
+use Rattle.pocket_keeper.proofs.KeyLemmas.{name_lacks_slash, word_next}
 use Rattle.pocket_types.specs.Sound.{IsSoundCollection, IsSoundField, IsSoundKind}
 use Rattle.pocket_store.specs.Drafts.{AreGoodRecs, IsWhole, draft, shelves_of}
 use Rattle.pocket_store.specs.SoundStates.{IsSoundRecIn, IsSoundShelf, IsSoundStored, IsSoundTokenIn, IsSoundWorld}

@@ -1,7 +1,7 @@
 use Rattle.std.proofs.Common.{◌++◌, ◌∷◌, codes, sym, ◌∙◌}
 use Rattle.std.proofs.lemmas.List.{append_cancel_left}
-use Rattle.pocket_keeper.proofs.PlainRows.{id_behind}
-use Rattle.pocket_keeper.proofs.plain.id_in_rec_key.Goals as goal
+use Rattle.pocket_keeper.proofs.KeyLemmas.{id_behind}
+use Rattle.pocket_keeper.proofs.keys.id_in_rec_key.Goals as goal
 
 pub returns-in_default-after-2 : goal.returns-in_default-after-2
 returns-in_default-after-2 c = λ id form q.
