@@ -44,8 +44,6 @@ fn outcome_of_text(
         "collection" => rows::collection(alloc, text),
         "record" => rows::record(alloc, given, text),
         "token" => rows::token(alloc, text),
-        "plain" => rows::plain_collection(alloc, text),
-        "plain_record" => rows::plain_record(alloc, given, text),
         "commit" => stores::committed(alloc, given, text),
         "print" => stores::printed(alloc, text),
         "read" => tables::read(alloc, given, text),
@@ -55,6 +53,7 @@ fn outcome_of_text(
         "work" => requests::work(alloc, text),
         "pipe" => runs::pipe(alloc, given, text),
         "row" => runs::bad_row(alloc, given, text),
+        "sample" => runs::sample(alloc),
         _ => Err(Trouble::Case("no such call")),
     }
 }

@@ -1,17 +1,13 @@
 // Calls over kept rows, each read alone.
 ghost use Rattle.pocket_types.specs.Sound.{IsSoundCollection};
-ghost use Rattle.pocket_keeper.specs.Plain.{IsPlainCollection};
 
 use crate::given::Given;
 use crate::schemas::collections_of;
 use crate::trouble::Trouble;
-use pocket_keeper::{
-    KeptRow, MemoryKeeper, Token, read_collection, read_rec, row_of_collection, row_of_rec,
-    row_of_token, split_rec_key,
-};
+use pocket_keeper::{KeptRow, MemoryKeeper, Token, row_of_token, split_rec_key};
 use pocket_ops::{collection_jv, has_own_names, kept_jv, rec_jv, row_len};
 use pocket_rows::{collection_of_row, rec_of_row, token_of_row};
-use pocket_types::{Cell, Collection, Jv, Rec, Seq, Text};
+use pocket_types::{Collection, Jv, Rec, Seq, Text};
 use std::alloc::{AllocError, Global};
 
 /// The row of a line: its key, a space and its value.
@@ -23,10 +19,10 @@ pub fn row_of_line(alloc: Global, line: &str) -> Result<KeptRow, AllocError> {
     })
 }
 
-/// The rows of lines.
+/// The rows of lines. An empty line is none.
 pub fn rows_of_lines(alloc: Global, lines: &str) -> Result<Seq<KeptRow>, AllocError> {
     let mut rows = Seq::new(alloc);
-    for line in lines.lines() {
+    for line in lines.lines().filter(|line| !line.is_empty()) {
         rows.push(row_of_line(alloc, line)?)?;
     }
     Ok(rows)
@@ -173,58 +169,5 @@ pub fn token(alloc: Global, text: &str) -> Result<String, Trouble> {
     match token_of_row(alloc, &row)? {
         Some(token) => told_token(alloc, &token, &row),
         None => refused(alloc),
-    }
-}
-
-/// What is told of a plain collection and its row.
-fn told_plain(alloc: Global, collection: &Collection, row: &KeptRow) -> Result<String, Trouble> {
-    told_row(alloc, &row_of_collection(alloc, collection)?, row)
-}
-
-/// Whether a plain collection has this row: one that the program's own opening takes.
-pub fn plain_collection(alloc: Global, text: &str) -> Result<String, Trouble> {
-    let row = row_of_line(alloc, text)?;
-    match read_collection(alloc, &row)? {
-        Some(collection) => told_plain(alloc, &collection, &row),
-        None => refused(alloc),
-    }
-}
-
-/// What the one cell of a record holds, if it is a text.
-fn held_text(rec: &Rec) -> &str {
-    match rec.cells.get(0) {
-        Some(Cell::Text(text)) => text.as_str(),
-        _ => "no text",
-    }
-}
-
-/// What is told of a plain record and its row: also what it holds.
-fn told_plain_rec(
-    alloc: Global,
-    collection: &Collection,
-    rec: &Rec,
-    row: &KeptRow,
-) -> Result<String, Trouble> {
-    let mut told = told_row(alloc, &row_of_rec(alloc, collection, rec)?, row)?;
-    told.push_str(": ")?;
-    told.push_str(held_text(rec))?;
-    Ok(told)
-}
-
-fn plain_record_in(alloc: Global, collection: &Collection, text: &str) -> Result<String, Trouble>
-    requires { IsPlainCollection collection.now }
-{
-    let row = row_of_line(alloc, text)?;
-    match read_rec(alloc, collection, &row)? {
-        Some(rec) => told_plain_rec(alloc, collection, &rec, &row),
-        None => refused(alloc),
-    }
-}
-
-/// What the record of this row holds, of the plain collection whose row is given.
-pub fn plain_record(alloc: Global, given: &Given, text: &str) -> Result<String, Trouble> {
-    match read_collection(alloc, &row_of_line(alloc, given.text("collection"))?)? {
-        Some(collection) => plain_record_in(alloc, &collection, text),
-        None => Err(Trouble::Case("the given row keeps no plain collection")),
     }
 }

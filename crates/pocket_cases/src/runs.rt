@@ -1,10 +1,10 @@
 // Whole runs: a command line, kept rows and an input, and what comes of them.
 use crate::given::Given;
 use crate::requests::source_of;
-use crate::rows::keeper_of_lines;
+use crate::rows::{keeper_of_lines, push_row};
 use crate::texts::in_both_ways;
 use crate::trouble::Trouble;
-use pocket::{RunEnd, Status, Turn, run_plain};
+use pocket::{RunEnd, Status, Turn, run_plain, sample_rows};
 use pocket_keeper::MemoryKeeper;
 use pocket_ops::date_read;
 use pocket_types::Seq;
@@ -142,19 +142,26 @@ fn run_all(alloc: Global, setting: Setting<'_>, plans: &str) -> Result<String, T
     Ok(outcome)
 }
 
-/// What comes of this input, with the given `words` and `rows`, by each of the given `plans`.
+/// What comes of this input, with the given `words`, and the given `rows` with the given `changes` put over them, by each of the given
+/// `plans`.
 pub fn pipe(alloc: Global, given: &Given, input: &str) -> Result<String, Trouble> {
+    let rows = rows_with(alloc, given, given.text("changes"))?;
     let setting = Setting {
         words: given.text("words"),
-        rows: given.text("rows"),
+        rows: rows.as_str(),
         input,
     };
     run_all(alloc, setting, given.text("plans"))
 }
 
-/// What comes of the given rows with these after them.
+/// The given rows with these put over them.
+fn rows_with(alloc: Global, given: &Given, rows: &str) -> Result<String, AllocError> {
+    format!(in alloc; "{}\n{rows}", given.text("rows"))
+}
+
+/// What comes of the given rows with these put over them, and no input.
 fn run_with(alloc: Global, given: &Given, rows: &str) -> Result<String, Trouble> {
-    let rows = format!(in alloc; "{}\n{rows}", given.text("rows"))?;
+    let rows = rows_with(alloc, given, rows)?;
     let setting = Setting {
         words: given.text("words"),
         rows: rows.as_str(),
@@ -173,4 +180,13 @@ fn run_before(alloc: Global, given: &Given, line: &str) -> Result<String, Troubl
 pub fn bad_row(alloc: Global, given: &Given, line: &str) -> Result<String, Trouble> {
     let outcome = run_with(alloc, given, line)?;
     in_both_ways(alloc, outcome, run_before(alloc, given, line), "before t/z")
+}
+
+/// The lines of the sample's rows.
+pub fn sample(alloc: Global) -> Result<String, Trouble> {
+    let mut lines = String::new(alloc);
+    for row in sample_rows(alloc)?.as_slice() {
+        push_row(&mut lines, row)?;
+    }
+    Ok(lines)
 }

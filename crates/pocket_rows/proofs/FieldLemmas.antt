@@ -57,7 +57,6 @@ name_is t h = ap (λ b. if b then Some t else None) h
 field_name_is : (t : List ℕ) → IsFieldName t → field_name_of t ≡ Some t
 field_name_is t h = ap (λ b. if b then None else name_of t) h.1 ∙ name_is t h.0
 
-
 -- ---- the names of fields
 
 abbrev pub names_of : List Field → List (List ℕ)
