@@ -1,7 +1,8 @@
 // Collections and records that are built in code, so that what is printed is compared with values that weren't read from a text.
 use crate::rows::{add_row, row_of_line};
-use pocket_keeper::{KeptRow, read_collection, row_of_collection, row_of_rec, row_of_token};
+use pocket_keeper::{KeptRow, row_of_collection, row_of_rec, row_of_token};
 use pocket_ops::{has_own_names, rec_jv, row_len};
+use pocket_rows::collection_of_row;
 use pocket_types::{
     Cell, Collection, Field, Id, Jv, Kind, Member, Moment, Name, Rec, Rule, Seq, Text,
 };
@@ -331,23 +332,23 @@ fn has_parts(c: &Collection) -> bool {
     kind && plain && names && !c.is_auth && c.fields.len() == 1
 }
 
-/// Whether a row keeps a plain collection with these parts.
+/// Whether a row keeps a collection with these parts.
 fn keeps_parts(alloc: Global, row: &KeptRow) -> Result<bool, AllocError> {
-    match read_collection(alloc, row)? {
+    match collection_of_row(alloc, row)? {
         Some(collection) => Ok(has_parts(&collection)),
         None => Ok(false),
     }
 }
 
 #[test]
-fn a_plain_collection_has_its_parts(rt: HostRuntime) -> Result<(), Fail> {
-    let row = row_of_line(rt.alloc(), plain())?;
+fn a_collection_has_its_parts(rt: HostRuntime) -> Result<(), Fail> {
+    let row = row_of_line(rt.alloc(), notes())?;
     assert!(rt; keeps_parts(rt.alloc(), &row)?);
     Ok(())
 }
 
 /// The row of the sample's notes.
-fn plain() -> &'static str {
+fn notes() -> &'static str {
     r##"c/notes {"createRule":"","deleteRule":"","fields":[{"hidden":false,"max":5000,"min":0,"name":"text","required":false,"type":"text","unique":false}],"listRule":"","name":"notes","type":"base","updateRule":"","viewRule":""}"##
 }
 
