@@ -1,5 +1,5 @@
 -- The fields of a collection, read from their tree.
-use Rattle.std.proofs.Common.{◌≡◌, ◌≢◌, ◌<◌, ◌^◌, ◌++◌, ◌↔◌, ℕ, suc, ℤ, pos, Bool, true, false, not, nat_le, nat_lt, ◌==◌, List, [], ◌∷◌, codes, map, length, get_or, Option, Some, None, option_map, option_and_then, IfSome, MatchOption, IsTrue, IsUtf8, All, AllPairs, if◌then◌else◌, refl, sym, ap, subst, ◌∙◌, arith}
+use Rattle.std.proofs.Common.{◌≡◌, ◌≢◌, ◌<◌, ◌^◌, ◌++◌, ◌↔◌, ℕ, suc, ℤ, pos, Bool, true, false, not, nat_le, nat_lt, ◌==◌, List, [], ◌∷◌, codes, map, length, get_or, Option, Some, None, option_map, option_and_then, IfSome, IsTrue, IsUtf8, All, AllPairs, if◌then◌else◌, refl, sym, ap, subst, ◌∙◌, arith}
 use Rattle.std.proofs.lemmas.Bool.Decides.{nat_tests}
 use Rattle.std.proofs.lemmas.Grind.{common_steps}
 use Rattle.std.proofs.lemmas.Option.{same_Some}
@@ -18,7 +18,7 @@ use Rattle.pocket_types.specs.declared.records.Kind.TheVariants as kind
 use Rattle.pocket_ops.specs.Dates.{date_text}
 use Rattle.pocket_ops.specs.Cells.{texts_jv}
 use Rattle.pocket_ops.specs.Trees.{text_jv, num_jv, flag_jv, list_jv, date_jv, bound_jv, field_members, field_jv}
-use Rattle.pocket_types.specs.Sound.{IsFieldName, is_reserved, IsSoundKind, IsSoundField, may_be_unique, Differ}
+use Rattle.pocket_types.specs.Sound.{IsFieldName, IsSoundKind, IsSoundField, may_be_unique, Differ}
 use Rattle.pocket_rows.proofs.EntryLemmas.{entry_among, among_is}
 use Rattle.pocket_rows.proofs.MemberLemmas.{Entries}
 use Rattle.pocket_rows.proofs.MomentLemmas.{date_text-read, date_text-filled}

@@ -1,0 +1,80 @@
+-- What a state holds may go to another thread.
+use denote.Param.Send.{IsSend, sendable, view_send}
+use denote.Param.SendFields.{declared_send, variants_send, as_row_send, array_field_send}
+use Rattle.std.proofs.Crossing.{crosses}
+use Rattle.pocket_types.proofs.json.Jv.TheLaws.TheKnot as tree
+use Rattle.pocket_types.proofs.ids.Id.TheSendSync as id
+use Rattle.pocket_types.proofs.moments.Moment.TheSendSync as moment
+use Rattle.pocket_types.proofs.names.Name.TheSendSync as name
+use Rattle.pocket_types.proofs.seq.Seq.TheSendSync as seq
+use Rattle.pocket_types.proofs.text.Text.TheSendSync as text
+use Rattle.pocket_types.proofs.boxed.Boxed.TheSendSync as boxed
+use Rattle.pocket_types.proofs.records.Collection.TheSendSync as collection
+use Rattle.pocket_types.proofs.resolved.Leaf.TheSendSync as leaf
+use Rattle.pocket_types.proofs.resolved.Resolved.TheLaws.TheKnot as filter
+use Rattle.pocket_types.specs.contracts.records.Cell as cell
+use Rattle.pocket_types.specs.contracts.records.Rec as rec
+use Rattle.pocket_tables.proofs.totals.Totals.TheSendSync as totals
+use Rattle.pocket_tables.specs.contracts.drawers.Drawer as drawer
+use Rattle.pocket_tables.specs.contracts.tables.Tables as tables
+use Rattle.pocket_tables.specs.contracts.tables.Tables.TheInside as tables_inside
+use Rattle.pocket_plan.specs.contracts.plan.Plan as plan
+use Rattle.pocket_plan.specs.contracts.plan.Plan.TheInside as plan_inside
+use Rattle.pocket_plan.specs.contracts.guard.ViewTest as view_test
+use Rattle.pocket_plan.specs.contracts.guard.View as view
+use Rattle.pocket_plan.specs.contracts.guard.Guard as guard
+use Rattle.pocket_gate.specs.contracts.rules.Rules as rules
+use Rattle.pocket_keeper.proofs.memory.MemoryKeeper.TheSendSync as keeper
+use Rattle.pocket_keeper.proofs.tokens.Token.TheSendSync as token
+use Rattle.pocket_core.proofs.work.Work.TheSendSync as work
+use Rattle.pocket_core.specs.contracts.state.State as state
+use Rattle.pocket_core.specs.contracts.state.State.TheInside as state_inside
+use Rattle.pocket_tests_office.specs.contracts.office.Office as office
+use Rattle.pocket_tests_office.specs.contracts.office.Office.TheInside as office_inside
+
+ruleset crossing = (sendable, crosses, declared_send, variants_send, as_row_send, array_field_send, view_send, id.the_send, moment.the_send, name.the_send, seq.the_send, text.the_send, tree.send-Jv)
+
+cell_send : IsSend cell.the_row
+cell_send = search crossing depth 40 fits 20000
+
+rec_send : IsSend rec.the_row
+rec_send = search (crossing, cell_send) depth 40 fits 20000
+
+drawer_send : IsSend drawer.the_row
+drawer_send = search (crossing, rec_send) depth 40 fits 20000
+
+tables_inside_send : IsSend tables_inside.the_row
+tables_inside_send = search (crossing, drawer_send, collection.the_send, totals.the_send) depth 40 fits 20000
+
+tables_send : IsSend tables.the_row
+tables_send = view_send tables_inside.the_row _ _ _ _ tables_inside_send
+
+plan_inside_send : IsSend plan_inside.the_row
+plan_inside_send = search (crossing, filter.send-Resolved, boxed.the_send, leaf.the_field_send) depth 40 fits 20000
+
+plan_send : IsSend plan.the_row
+plan_send = view_send plan_inside.the_row _ _ _ _ plan_inside_send
+
+view_test_send : IsSend view_test.the_row
+view_test_send = search (crossing, plan_send) depth 40 fits 20000
+
+view_of_send : IsSend view.the_row
+view_of_send = search (crossing, view_test_send) depth 40 fits 20000
+
+guard_send : IsSend guard.the_row
+guard_send = search (crossing, view_of_send) depth 40 fits 20000
+
+rules_send : IsSend rules.the_row
+rules_send = search (crossing, view_of_send, guard_send) depth 40 fits 20000
+
+state_inside_send : IsSend state_inside.the_row
+state_inside_send = search (crossing, tables_send, rules_send, token.the_send, work.the_send) depth 40 fits 20000
+
+state_send : IsSend state.the_row
+state_send = view_send state_inside.the_row _ _ _ _ state_inside_send
+
+office_inside_send : IsSend office_inside.the_row
+office_inside_send = search (crossing, state_send, keeper.the_send) depth 40 fits 20000
+
+pub office_send : IsSend office.the_row
+office_send = view_send office_inside.the_row _ _ _ _ office_inside_send
