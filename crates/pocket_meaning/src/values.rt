@@ -33,7 +33,7 @@ fn moment_value(alloc: Global, moment: Moment) -> Result<Value, AllocError>
 {
     match str::from_utf8(&date_text(moment)) {
         Ok(text) => text_value(alloc, text),
-        Err(_) => Err(AllocError),
+        Err(_) => unreachable!(),
     }
 }
 
