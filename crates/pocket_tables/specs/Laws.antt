@@ -1,19 +1,23 @@
 -- What follows from the definitions.
 use Rattle.std.specs.Prelude.{◌≡◌, ◌⊎◌, ℕ, false, List, [], ◌∷◌, Option, Some, All, Contains, IfSome, IsTrue, MatchOption, if◌then◌else◌}
+use Rattle.std.specs.List.{AllZip}
 use Rattle.std.specs.Str.{bytes_eq}
 use Rattle.pocket_types.specs.Order.{IsBefore, Rises}
 use Rattle.pocket_types.specs.Sound.{AllFit, IsSoundCollection, IsSoundRec}
 use Rattle.pocket_types.specs.World.{shelf_named}
 use Rattle.pocket_types.specs.declared.deltas.Delta.{Delta}
+use Rattle.pocket_types.specs.declared.deltas.RecChange.{RecChange}
 use Rattle.pocket_types.specs.declared.ids.Id.{Id}
+use Rattle.pocket_types.specs.declared.names.Name.{Name}
 use Rattle.pocket_types.specs.declared.records.Collection.{Collection}
 use Rattle.pocket_types.specs.declared.records.Rec.{Rec}
 use Rattle.pocket_types.specs.declared.world.Shelf.{Shelf}
 use Rattle.pocket_types.specs.declared.world.World.{World}
-use Rattle.pocket_tables.specs.Deltas.{FitsWorld, inverse, rec_changes, shelf_changes, world_after}
+use Rattle.pocket_ops.specs.Lengths.{HasOwnNames}
+use Rattle.pocket_tables.specs.Deltas.{FitsWorld, KeepsShape, inverse, rec_changes, shelf_changes, world_after}
 use Rattle.pocket_tables.specs.Keyed.{AtDistinctKeys, Change}
 use Rattle.pocket_tables.specs.Reads.{first_above, is_above}
-use Rattle.pocket_tables.specs.Worlds.{HasShape, IsTabled, MayStand, collection_at, id_of, rec_at, shapes_of, shelf_name}
+use Rattle.pocket_tables.specs.Worlds.{HasShape, IsTabled, MayStand, collection_at, id_of, rec_at, recs_at, shapes_of, shelf_name}
 
 -- ---- deltas
 
@@ -49,6 +53,25 @@ pub record ChangesRecords (d : Delta) (w : World) : Type 0 where
 -- such a delta fits
 abbrev pub RecordChangesFit : Type 0
 RecordChangesFit = (d : Delta) (w : World) → ChangesRecords d w → FitsWorld d w
+
+-- a change cuts a record that stands under a name, or puts one in its place, which may stand where this collection does
+pub record IsChangeOf (name : Name) (standing : Option Collection) (r : Rec) (c : RecChange) : Type 0 where
+  pub collection : c.collection ≡ name
+  pub id : c.id ≡ r.id
+  pub after : IfSome c.after (λ s. (s.id ≡ r.id) × MayStand standing s)
+
+-- A delta that puts a collection at a name, or cuts the one that stands there. What is put bears the name, and its fields have names
+-- of their own. Either there was no collection or it stays with fields of the same shapes, and no record changes. Or each record
+-- that stands under the name is changed, in their order: it is cut, or put in the shape of the collection that is put.
+pub record ChangesCollection (name : Name) (after : Option Collection) (d : Delta) (w : World) : Type 0 where
+  pub shelves : d.shelves ≡ record { name = name; after = after } ∷ []
+  pub named : IfSome after (λ c. c.name ≡ name)
+  pub own : IfSome after HasOwnNames
+  pub recs : KeepsShape (collection_at w name) after × (d.recs ≡ []) ⊎ AllZip (IsChangeOf name after) (recs_at w name) d.recs
+
+-- such a delta fits
+abbrev pub CollectionChangesFit : Type 0
+CollectionChangesFit = (name : Name) (after : Option Collection) (d : Delta) (w : World) → IsTabled w → ChangesCollection name after d w → FitsWorld d w
 
 -- ---- worlds
 

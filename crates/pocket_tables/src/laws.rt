@@ -1,5 +1,5 @@
 // What follows from the definitions. Each law is a function without a body.
-ghost use Rattle.pocket_tables.specs.Laws.{DeltasAreMadeAtOnce, FirstIsLeast, FittingCellsHaveShape, InversesUndo, LookUpsDecide, RecordChangesFit, ShelvesAreFound, SoundShelvesAreTabled};
+ghost use Rattle.pocket_tables.specs.Laws.{CollectionChangesFit, DeltasAreMadeAtOnce, FirstIsLeast, FittingCellsHaveShape, InversesUndo, LookUpsDecide, RecordChangesFit, ShelvesAreFound, SoundShelvesAreTabled};
 
 /// After a delta each look-up gives what the delta says, and where it says nothing what it gave before.
 pub fn deltas_are_made_at_once()
@@ -14,6 +14,11 @@ pub fn inverses_undo()
 /// A delta that changes records alone fits, where they have the shape of their collections.
 pub fn record_changes_fit()
     ensures { RecordChangesFit }
+{}
+
+/// A delta that puts or cuts one collection fits, where its records may stay as they are or where each of them is changed too.
+pub fn collection_changes_fit()
+    ensures { CollectionChangesFit }
 {}
 
 /// Worlds in tables in which each look-up gives the same are one.
