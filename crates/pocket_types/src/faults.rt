@@ -1,3 +1,4 @@
+use crate::names::Name;
 use crate::text::Text;
 use std::alloc::{AllocError, AllocFailed};
 use std::error::Error;
@@ -28,6 +29,60 @@ pub enum ResolveFault {
     SuperuserOnly(u32),
     HiddenField(Text),
     Memory,
+}
+
+/// Why the text of a rule is no filter of its collection. Neither fault is want of memory.
+#[derive(Drop)]
+pub enum RuleFault {
+    Parse(FilterFault),
+    Resolve(ResolveFault),
+}
+
+/// What is wrong with a field of a record.
+#[derive(Clone, Copy)]
+pub enum Code {
+    /// The JSON isn't of the field's type.
+    Kind,
+    /// A number is over 2^53 - 1 in size.
+    Range,
+    /// The field is required and has its type's zero value.
+    Required,
+    /// Below the least that the field allows.
+    Min,
+    /// Above the most that the field allows.
+    Max,
+    /// A select's item isn't one of the field's values.
+    Value,
+    /// A relation's record isn't there.
+    Missing,
+    /// The field is unique and another record has the value.
+    Taken,
+}
+
+/// A field of a record, with what is wrong with it.
+#[derive(Drop)]
+pub struct FieldFault {
+    pub field: Name,
+    pub code: Code,
+}
+
+/// A limit that a change would pass.
+#[derive(Clone, Copy)]
+pub enum Limit {
+    /// Collections in all.
+    Collections,
+    /// Fields of one collection.
+    Fields,
+    /// Records in all.
+    Records,
+    /// Bytes of one record's row.
+    Record,
+    /// Bytes of all records' rows.
+    Store,
+    /// Tokens that last.
+    Tokens,
+    /// Items of a batch.
+    Requests,
 }
 
 impl FilterFault {

@@ -28,7 +28,7 @@ pub use deltas::{Delta, RecChange, ShelfChange};
 pub use exact::{Exact, Faithful, copied, copied_items, is_same};
 pub use expr::{Expr, Op, Operand, Part};
 pub use failed::Failed;
-pub use faults::{FilterFault, ResolveFault};
+pub use faults::{Code, FieldFault, FilterFault, Limit, ResolveFault, RuleFault};
 pub use ids::Id;
 pub use json::{Jv, Member, NUMBER_END};
 pub use moments::{FIRST_MILLIS, LAST_MILLIS, Moment};

@@ -1,5 +1,5 @@
 -- Fields as headers.
-use Rattle.std.proofs.Common.{◌≡◌, ◌≤◌, ◌<◌, ◌↔◌, ℕ, suc, List, [], ◌∷◌, length, map, get_or, Bool, true, false, refl, IsUtf8, IsTrue, All, arith}
+use Rattle.std.proofs.Common.{◌≡◌, ◌<◌, ℕ, suc, List, [], ◌∷◌, map, Bool, true, false, refl, IsUtf8, All, arith}
 use Rattle.std.proofs.lemmas.List.Elements.{All-cons, All-nil}
 use Rattle.std.proofs.lemmas.List.Elements.{All-weaker}
 use Rattle.std.proofs.lemmas.Bool.Decides.{nat_tests}
@@ -9,7 +9,7 @@ use Rattle.httparse.specs.Grammar.{Field, IsField, is_token_byte}
 use Rattle.httparse.specs.Spans.{header_bytes, name_and_value, span_bytes}
 use Rattle.std.specs.Str.{is_utf8}
 use Rattle.std.proofs.lemmas.Str.{IsUtf8-from_ascii, IsUtf8-from_is_utf8, is_utf8-from_IsUtf8}
-use Rattle.pocket_wire.specs.Requests.{header_of, IsAuthorization}
+use Rattle.pocket_wire.specs.Heads.{header_of}
 
 -- a value in UTF-8
 pub header_of-text : (name value : List ℕ) (n v : List ℕ) → IsUtf8 value → n ≡ name → v ≡ value
@@ -23,16 +23,6 @@ header_of-none name value other = by (is_utf8 value) refl
     by : (b : Bool) → is_utf8 value ≡ b → header_of (name, value) ≡ []
     by true e = absurd (other (IsUtf8-from_is_utf8 value e))
     by false e = rw e refl
-
--- the only one of these fields
-pub one_plain : (f : HeaderSpan → List ℕ × List ℕ) (fields : List HeaderSpan) (d : HeaderSpan) (b : Bool) → length fields ≡ 1
-    → IsTrue b ↔ IsAuthorization (f (get_or fields 0 d)) → IsTrue b ↔ ((length fields ≤ 1) × All IsAuthorization (map f fields))
-one_plain f [] d b one h = absurd (omega arith)
-one_plain f (x ∷ []) d b one h = (
-  λ t. (omega arith, All-cons IsAuthorization (f x) [] (h.0 t) (All-nil IsAuthorization)),
-  λ all. h.1 (all.1 0 (f x) (omega arith)),
-)
-one_plain f (x ∷ y ∷ rest) d b one h = absurd (omega arith)
 
 -- a byte of a token is ASCII
 token_is_ascii : (b : ℕ) → is_token_byte b ≡ true → b < 128

@@ -1,6 +1,7 @@
-//! What the server reads from and writes to, requests in their bytes, and the text of refusals.
+//! What the server reads from and writes to, the requests that stand in bytes, and the text of refusals.
 #![tactic(auto)]
 
+mod block;
 mod clock;
 mod dice;
 mod head;
@@ -10,7 +11,6 @@ mod read;
 mod refusal;
 mod request;
 mod source;
-mod target;
 mod write;
 
 pub use clock::{Clock, FixedClock};
@@ -20,7 +20,8 @@ pub use memory::{MemoryLink, MemorySink, MemorySource};
 pub use pocket_types::Failed;
 pub use read::next_request;
 pub use refusal::{refused_reply, status_phrase};
-pub use request::{Ended, Inbox, Next, Request, WireFault, requests_are_determined};
+pub use request::{
+    Ended, Inbox, Next, Request, WireFault, decisions_stay, requests_are_determined,
+};
 pub use source::{Link, Sink, Source};
-pub use target::view_segments;
 pub use write::write_all;

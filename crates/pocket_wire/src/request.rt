@@ -1,5 +1,5 @@
 ghost use Rattle.std.specs.Prelude.{◌≡◌, []};
-ghost use Rattle.pocket_wire.specs.Requests.{AreDetermined};
+ghost use Rattle.pocket_wire.specs.Requests.{AreDetermined, StayDecided};
 
 use pocket_types::{Method, Pair, Seq, Text};
 use std::alloc::{AllocError, Global};
@@ -11,12 +11,12 @@ pub struct Request {
     pub method: Method,
     /// The path, and where there is one the query behind a `?`.
     pub target: Text,
-    /// The headers whose value is UTF-8, in their order, with the value's outer white space off.
+    /// The headers whose value is UTF-8, in their order, without the white space around the value.
     pub headers: Seq<Pair>,
     pub body: Seq<u8>,
     /// Whether the connection ends after the reply.
     pub close: bool,
-    /// The number of bytes of head and body.
+    /// The number of bytes of head and body, with the line end before the head where there is one.
     pub cost: u64,
 }
 
@@ -32,7 +32,7 @@ pub enum Next {
     Refused(u16),
 }
 
-/// Bytes that were read and are not used yet.
+/// Bytes that were read and are not used yet. They stand before those that the source has left.
 #[derive(Drop)]
 pub struct Inbox {
     pub left: Seq<u8>,
@@ -89,7 +89,13 @@ impl Inbox {
     }
 }
 
-/// The requests that stand in bytes, and how they end, are a function of the bytes.
+/// The requests that stand in bytes, of which there may be so many, and how the bytes end are a function of the bytes: it doesn't
+/// matter in which pieces they come.
 pub fn requests_are_determined()
     ensures { AreDetermined }
+{}
+
+/// What bytes decide isn't changed by those that follow.
+pub fn decisions_stay()
+    ensures { StayDecided }
 {}
