@@ -1,0 +1,122 @@
+ghost use Rattle.std.specs.Prelude.{◌≡◌, ◌⊎◌, ◌≤◌, ◌<◌, ℕ, List, length};
+ghost use Rattle.std.specs.Io.KnownBytes.{Consumes, IsAtEnd};
+ghost use Rattle.pocket_types.specs.Causes.{Rose};
+ghost use Rattle.pocket_wire.specs.Reading.{HasReplyStatus};
+ghost use Rattle.pocket_api.specs.declared.reply.Reply.{Reply};
+ghost use Rattle.pocket_api.specs.declared.work.Work.{Work};
+ghost use Rattle.pocket_desk.specs.History.{BeginsWith};
+ghost use Rattle.pocket_desk.specs.declared.view.Call.{Call};
+ghost use Rattle.pocket_serve.specs.Drawing.{IsDrawn, draws_of};
+ghost use Rattle.pocket_serve.specs.Sending.{Takes};
+ghost use Rattle.pocket_serve.specs.Serving.{IsAnswered};
+ghost use Rattle.pocket_serve.specs.Sessions.{IsExchange, IsSession};
+
+use crate::service::Service;
+use crate::steps::{REQUESTS, answer_request, close_without_memory, refuse};
+use pocket_wire::{Clock, Dice, Ended, Inbox, Next, Sink, Source, WireFault, next_request};
+use std::alloc::Global;
+
+/// Answers what comes next on a connection, where so many requests came before. None: the session goes on.
+fn answer_next<V: Service, O: Sink, C: Clock, D: Dice>(
+    alloc: Global,
+    next: Result<Next, WireFault>,
+    number: u64,
+    service: V,
+    lent: &mut V::Lent,
+    sink: &mut O,
+    clock: &mut C,
+    dice: &mut D,
+) -> (V, Option<Ended>)
+    requires few { number < 1000 }
+    requires status { HasReplyStatus next }
+    requires ready { V.is_ready service lent.old }
+    ensures ready { V.is_ready result.0 lent.new }
+    ensures opening { V.opening result.0 ≡ V.opening service }
+    ensures grows { BeginsWith (V.seen result.0) (V.seen service) }
+    ensures answered { IsAnswered (λ request call text. IsExchange (V.fits (V.opening service)) (V.enters (V.opening service)) V.follows (V.seen result.0)
+        number (length (V.seen service)) request call text (length (V.seen result.0)))
+        (λ calls. V.came_by service lent.old calls result.0 lent.new)
+        (V.seen service) (V.seen result.0) (O.taken sink.old) (O.taken sink.new) (O.faults sink.old) (O.faults sink.new)
+        (C.answers clock.old) (C.answers clock.new) (D.answers dice.old) (D.answers dice.new)
+        next result.1 }
+    ensures count { O.faults sink.old ≤ O.faults sink.new }
+    ensures apart { O.untouched sink.new ≡ O.untouched sink.old }
+{
+    match next {
+        Ok(Next::Request(request)) => {
+            answer_request(alloc, &request, number, service, lent, sink, clock, dice)
+        }
+        Ok(Next::End) => (service, Some(Ended::Done)),
+        Ok(Next::Truncated) => (service, Some(Ended::Truncated)),
+        Ok(Next::Refused(status)) => (service, Some(refuse(alloc, sink, status))),
+        Err(WireFault::SourceFault) => (service, Some(Ended::SourceFault)),
+        Err(WireFault::Memory) => (service, Some(close_without_memory(sink))),
+    }
+}
+
+/// What a session reads, writes and draws from.
+#[derive(Drop)]
+pub struct Outside<'source, 'sink, 'clock, 'dice, S, O, C, D> {
+    pub source: &'source mut S,
+    pub sink: &'sink mut O,
+    pub clock: &'clock mut C,
+    pub dice: &'dice mut D,
+}
+
+/// Answers the requests of a source on a sink, one after the other, and says how the session ended. It returns where the service's
+/// calls do.
+pub fn run_session<V: Service, S: Source, O: Sink, C: Clock, D: Dice>(
+    alloc: Global,
+    service: V,
+    lent: &mut V::Lent,
+    outside: &mut Outside<'_, '_, '_, '_, S, O, C, D>,
+) -> (V, Ended)
+    requires ready { V.is_ready service lent.old }
+    // The service came to be what it is by the calls of a session over the bytes that the source gave, and the sink took what the
+    // session sent.
+    ensures session { (calls : List (Call Work Reply)) × (bytes : List ℕ) × (said : List ℕ) × (last : List ℕ)
+        × Consumes (S.left outside.old.source.now) (S.left outside.new.source.now) bytes
+        × V.came_by service lent.old calls result.0 lent.new
+        × IsSession (V.fits (V.opening service)) (V.enters (V.opening service)) V.follows (V.seen result.0) (length (V.seen service))
+        calls bytes said last result.1 (length (V.seen result.0))
+        × Takes (O.taken outside.old.sink.now) (O.taken outside.new.sink.now) (O.faults outside.old.sink.now) (O.faults outside.new.sink.now)
+        said last result.1
+        × IsDrawn (C.answers outside.old.clock.now) (C.answers outside.new.clock.now) (D.answers outside.old.dice.now)
+        (D.answers outside.new.dice.now) (draws_of calls) result.1 }
+    ensures source_fault { result.1 ≡ Ended.SourceFault → Rose (S.faults outside.old.source.now) (S.faults outside.new.source.now) }
+    ensures at_end { (result.1 ≡ Ended.Done) ⊎ (result.1 ≡ Ended.Truncated) → IsAtEnd (S.left outside.new.source.now) }
+
+    // The service may go on, from the same opening, and knows of more.
+    ensures ready { V.is_ready result.0 lent.new }
+    ensures opening { V.opening result.0 ≡ V.opening service }
+    ensures grows { BeginsWith (V.seen result.0) (V.seen service) }
+
+    // No count of faults falls, and what is outside stays where it is.
+    ensures source_count { S.faults outside.old.source.now ≤ S.faults outside.new.source.now }
+    ensures sink_count { O.faults outside.old.sink.now ≤ O.faults outside.new.sink.now }
+    ensures same_source { outside.new.source.ghost_name ≡ outside.old.source.ghost_name }
+    ensures same_sink { outside.new.sink.ghost_name ≡ outside.old.sink.ghost_name }
+    ensures same_clock { outside.new.clock.ghost_name ≡ outside.old.clock.ghost_name }
+    ensures same_dice { outside.new.dice.ghost_name ≡ outside.old.dice.ghost_name }
+{
+    let mut service = service;
+    let mut inbox = Inbox::new(alloc);
+    'requests: for number in 0..REQUESTS {
+        let next = next_request(alloc, &mut inbox, outside.source);
+        let (after, ended) = answer_next(
+            alloc,
+            next,
+            number,
+            service,
+            lent,
+            outside.sink,
+            outside.clock,
+            outside.dice,
+        );
+        service = after;
+        if let Some(ended) = ended {
+            return (service, ended);
+        }
+    }
+    (service, Ended::Limit)
+}
