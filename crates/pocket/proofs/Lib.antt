@@ -1,5 +1,3 @@
 pub mod WordLemmas
-pub mod SendingLemmas
-pub mod SessionLemmas
-pub mod EndLemmas
+pub mod CallLemmas
 pub mod KeeperLemmas

@@ -1,7 +1,4 @@
-pub mod Drawing
+pub mod Calls
 pub mod Exits
 pub mod Runs
-pub mod Sending
-pub mod Serving
-pub mod Sessions
 pub mod Words

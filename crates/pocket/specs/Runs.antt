@@ -25,6 +25,10 @@ IsPipeEnd words old new before now (run.Faults count) = ⊥
 IsPipeEnd words old new before now run.BadInput = ⊥
 IsPipeEnd words old new before now run.NotEmpty = ⊥
 
+-- a fact of a run whose words are those of `pipe`
+abbrev pub OnPipe : List (List ℕ) → Type 0 → Type 0
+OnPipe words P = (token : List ℕ) → IsPipe words token → P
+
 -- a fact of the session, where there was one
 abbrev pub OnSession : RunEnd → (Ended → Type 0) → Type 0
 OnSession (run.Session ended) P = P ended

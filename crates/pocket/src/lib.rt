@@ -1,9 +1,10 @@
 //! The top calls: a run of the server over words, bytes, a keeper, a clock and dice.
 #![tactic(auto)]
 
+pub mod laws;
 mod run;
 mod sample;
-mod session;
+mod service;
 mod status;
 mod words;
 

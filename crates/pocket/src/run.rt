@@ -1,27 +1,31 @@
-ghost use Rattle.std.specs.Prelude.{◌≡◌, ◌⊎◌, ◌<◌, ◌≤◌, [], ℕ, List, length, map};
+ghost use Rattle.std.specs.Prelude.{◌≡◌, ◌⊎◌, ◌<◌, ◌≤◌, [], ℕ, List, map};
 ghost use Rattle.std.specs.Io.KnownBytes.{Consumes, IsAtEnd};
 ghost use Rattle.std.specs.String.{string_bytes};
 ghost use Rattle.pocket_types.specs.Causes.{Rose, StaysUntold};
 ghost use Rattle.pocket_keeper.specs.Keeping.{AreAsBefore};
-ghost use Rattle.pocket_wire.specs.declared.request.Ended.TheVariants.{Done, SourceFault};
+ghost use Rattle.pocket_wire.specs.declared.request.Ended.TheVariants.{Done, SourceFault, Truncated};
+ghost use Rattle.pocket_api.specs.declared.reply.Reply.{Reply};
+ghost use Rattle.pocket_api.specs.declared.work.Work.{Work};
+ghost use Rattle.pocket_desk.specs.declared.view.Call.{Call};
+ghost use Rattle.pocket_serve.specs.Drawing.{IsDrawn, draws_of};
+ghost use Rattle.pocket_serve.specs.Sending.{Takes};
 ghost use Rattle.pocket_core.specs.Answers.{after};
 ghost use Rattle.pocket_core.specs.Opening.{AreRowsOf};
 ghost use Rattle.pocket_core.specs.States.{MachineState};
-ghost use Rattle.pocket.specs.Drawing.{IsDrawn};
-ghost use Rattle.pocket.specs.Runs.{IsOpeningOf, IsPipeEnd, OnSession, OnUnopened, end_of};
-ghost use Rattle.pocket.specs.Serving.{ReadsAll, Takes};
-ghost use Rattle.pocket.specs.Sessions.{IsSession};
+ghost use Rattle.pocket.specs.Calls.{IsOwnSession, turns_of};
+ghost use Rattle.pocket.specs.Runs.{IsOpeningOf, IsPipeEnd, OnPipe, OnSession, OnUnopened, end_of};
 ghost use Rattle.pocket.specs.Words.{IsPipe};
 
-use crate::session::run_session;
+use crate::service::StateService;
 use crate::status::{RunEnd, Status};
 use crate::words::pipe_token;
 use pocket_core::{StartFault, State};
 use pocket_keeper::{Committer, Keeper};
+use pocket_serve::{Outside, run_session};
 use pocket_types::{Seq, Steps, Text};
 use pocket_wire::{Clock, Dice, Sink, Source};
 use std::alloc::Global;
-use std::marker::Brand;
+use std::marker::{Brand, PhantomData};
 use std::sync::ledger::{Blank, Ledger};
 
 /// A run without a session.
@@ -50,7 +54,7 @@ fn start_end(fault: StartFault) -> RunEnd
 /// The session over an opened state.
 fn run_opened<S: Source, O: Sink, K: Committer, C: Clock, D: Dice, L: Ledger>(
     alloc: Global,
-    mut state: State,
+    state: State,
     source: &mut S,
     sink: &mut O,
     keeper: &mut K,
@@ -63,26 +67,39 @@ fn run_opened<S: Source, O: Sink, K: Committer, C: Clock, D: Dice, L: Ledger>(
     requires some { 0 < L.parts }
     requires fresh { state.journal ≡ [] }
     requires rows { AreRowsOf (K.rows keeper.old) state.opening }
-    ensures session { OnSession result.ended (λ ended. (bytes : List ℕ) × (out : List ℕ)
+    ensures session { OnSession result.ended (λ ended. (calls : List (Call Work Reply)) × (bytes : List ℕ) × (said : List ℕ) × (last : List ℕ)
         × Consumes (S.left source.old) (S.left source.new) bytes
-        × (length bytes ≤ 16_896) × ReadsAll bytes (S.left source.new) ended
-        × IsSession state.opening result.journal result.turns bytes out ended
-        × Takes (O.taken sink.old) (O.taken sink.new) (O.faults sink.old) (O.faults sink.new) out ended) }
-    ensures draws { OnSession result.ended
-        (IsDrawn (C.answers clock.old) (C.answers clock.new) (D.answers dice.old) (D.answers dice.new) result.turns) }
+        × (result.turns ≡ turns_of calls)
+        × IsOwnSession state.opening result.journal calls bytes said last ended
+        × Takes (O.taken sink.old) (O.taken sink.new) (O.faults sink.old) (O.faults sink.new) said last ended
+        × IsDrawn (C.answers clock.old) (C.answers clock.new) (D.answers dice.old) (D.answers dice.new) (draws_of calls) ended
+        × AreRowsOf (K.rows keeper.new) (after state.opening result.journal)) }
     ensures source_fault { OnSession result.ended (λ ended. ended ≡ SourceFault → Rose (S.faults source.old) (S.faults source.new)) }
-    ensures done { OnSession result.ended (λ ended. ended ≡ Done → IsAtEnd (S.left source.new)) }
+    ensures at_end { OnSession result.ended (λ ended. (ended ≡ Done) ⊎ (ended ≡ Truncated) → IsAtEnd (S.left source.new)) }
     ensures opened { OnUnopened result.ended ⊥ }
-    ensures journal { result.journal ≡ [] }
     ensures keeper { keeper.new ≡ keeper.old }
     ensures source_count { S.faults source.old ≤ S.faults source.new }
     ensures sink_count { O.faults sink.old ≤ O.faults sink.new }
 {
-    let mut steps = Steps::<L>::new(blank);
-    let mut turns = Seq::new(alloc);
-    let ended = run_session(
-        alloc, &mut state, keeper, source, sink, clock, dice, &mut steps, &mut turns,
-    );
+    let service = StateService::<K, L> {
+        state,
+        turns: Seq::new(alloc),
+        steps: Steps::new(blank),
+        keeper: PhantomData,
+    };
+    let mut outside = Outside {
+        source,
+        sink,
+        clock,
+        dice,
+    };
+    let (service, ended) = run_session(alloc, service, keeper, &mut outside);
+    let StateService {
+        state,
+        turns,
+        steps: _,
+        keeper: _,
+    } = service;
     Status {
         ended: RunEnd::Session(ended),
         turns,
@@ -90,8 +107,8 @@ fn run_opened<S: Source, O: Sink, K: Committer, C: Clock, D: Dice, L: Ledger>(
     }
 }
 
-/// Runs the program that the words name, over bytes, a keeper, a clock and dice. So far that is `pipe --admin TOKEN
-/// --sample`, which answers the request of the source on the sink. It returns for every input.
+/// Runs the program that the words name, over bytes, a keeper, a clock and dice. So far that is `pipe --admin TOKEN --sample`, which
+/// answers the requests of the source on the sink, one after the other. It returns for every input.
 #[tactic(auto, using(crate::proofs::KeeperLemmas::as_they_were, crate::proofs::KeeperLemmas::pipe_end))]
 pub fn run_plain<S: Source, O: Sink, K: Keeper, C: Clock, D: Dice>(
     alloc: Global,
@@ -106,20 +123,20 @@ pub fn run_plain<S: Source, O: Sink, K: Keeper, C: Clock, D: Dice>(
     ensures words { result.ended ≡ RunEnd.Words ⊎ ((token : List ℕ) × IsPipe (map string_bytes words.now) token) }
     ensures ended { IsPipeEnd (map string_bytes words.now) (K.rows keeper.old) (K.rows keeper.new) (K.faults keeper.old) (K.faults keeper.new) result.ended }
 
-    // From the state that the rows told at first stand for, the turns, the accepted commands and what the sink took are a session
-    // over the bytes that the source gave, which are all unless it failed, memory was wanting or they are too many.
-    ensures session { OnSession result.ended (λ ended. (opening : MachineState)
+    // `pipe`: from the state that the rows told at first stand for, the turns and the accepted commands are those of a session over
+    // the bytes that the source gave; the sink took what the session sent, and clock and dice gave what was drawn; and the rows told
+    // at the end are those of the state after the accepted commands.
+    ensures session { OnPipe (map string_bytes words.now) (OnSession result.ended (λ ended. (opening : MachineState)
         × IsOpeningOf (map string_bytes words.now) (K.rows keeper.old) (K.rows keeper.new) opening
-        × (bytes : List ℕ) × (out : List ℕ)
+        × (calls : List (Call Work Reply)) × (bytes : List ℕ) × (said : List ℕ) × (last : List ℕ)
         × Consumes (S.left source.old) (S.left source.new) bytes
-        × (length bytes ≤ 16_896) × ReadsAll bytes (S.left source.new) ended
-        × IsSession opening result.journal result.turns bytes out ended
-        × Takes (O.taken sink.old) (O.taken sink.new) (O.faults sink.old) (O.faults sink.new) out ended
-        × AreRowsOf (K.rows keeper.new) (after opening result.journal)) }
-    ensures draws { OnSession result.ended
-        (IsDrawn (C.answers clock.old) (C.answers clock.new) (D.answers dice.old) (D.answers dice.new) result.turns) }
-    ensures source_fault { OnSession result.ended (λ ended. ended ≡ SourceFault → Rose (S.faults source.old) (S.faults source.new)) }
-    ensures done { OnSession result.ended (λ ended. ended ≡ Done → IsAtEnd (S.left source.new)) }
+        × (result.turns ≡ turns_of calls)
+        × IsOwnSession opening result.journal calls bytes said last ended
+        × Takes (O.taken sink.old) (O.taken sink.new) (O.faults sink.old) (O.faults sink.new) said last ended
+        × IsDrawn (C.answers clock.old) (C.answers clock.new) (D.answers dice.old) (D.answers dice.new) (draws_of calls) ended
+        × AreRowsOf (K.rows keeper.new) (after opening result.journal))) }
+    ensures source_fault { OnPipe (map string_bytes words.now) (OnSession result.ended (λ ended. ended ≡ SourceFault → Rose (S.faults source.old) (S.faults source.new))) }
+    ensures at_end { OnPipe (map string_bytes words.now) (OnSession result.ended (λ ended. (ended ≡ Done) ⊎ (ended ≡ Truncated) → IsAtEnd (S.left source.new))) }
 
     // Without a session nothing is read, sent or drawn.
     ensures no_turn { OnUnopened result.ended ((result.turns ≡ []) × (result.journal ≡ [])) }

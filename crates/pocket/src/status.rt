@@ -1,7 +1,7 @@
 ghost use Rattle.std.specs.Prelude.{◌≡◌};
 ghost use Rattle.pocket.specs.Exits.{session_exit};
 
-use pocket_core::{Draw, Work};
+use pocket_api::{Draw, Work};
 use pocket_types::{Seq, Text};
 use pocket_wire::Ended;
 use std::fmt;
@@ -87,7 +87,7 @@ impl fmt::Display for RunEnd {
             RunEnd::Session(Ended::Closed) => f.write_str("the last request asked for the end"),
             RunEnd::Session(Ended::Refused(status)) => write!(
                 f,
-                "the input isn't a request, and was answered {status}"
+                "bytes that aren't a request were answered {status}"
             ),
             RunEnd::Session(Ended::Truncated) => f.write_str("the input ended inside a request"),
             RunEnd::Session(Ended::Limit) => f.write_str(

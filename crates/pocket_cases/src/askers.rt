@@ -10,7 +10,7 @@ use pocket_types::{
 use std::alloc::{AllocError, Global};
 
 /// A caller: `guest`, `admin`, or a member as `COLLECTION/ID`.
-fn caller_of(alloc: Global, word: &str) -> Result<Caller, Trouble> {
+pub fn caller_of(alloc: Global, word: &str) -> Result<Caller, Trouble> {
     match word {
         "guest" => Ok(Caller::Guest),
         "admin" => Ok(Caller::Admin),

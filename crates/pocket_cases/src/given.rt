@@ -96,18 +96,6 @@ fn push_char(out: &mut Vec<u8>, alloc: Global, found: char) -> Result<bool, Allo
     Ok(true)
 }
 
-/// Adds what stands for a name such as `40*ab`. Whether it stands for something.
-fn push_repeated(out: &mut Vec<u8>, alloc: Global, name: &str) -> Result<bool, AllocError> {
-    let Some((times, text)) = name.split_once('*') else {
-        return Ok(false);
-    };
-    let Ok(times) = times.parse::<u32>() else {
-        return Ok(false);
-    };
-    push_times(out, alloc, times, text)?;
-    Ok(true)
-}
-
 impl Given {
     pub fn new(alloc: Global) -> Given {
         Given {
@@ -129,6 +117,25 @@ impl Given {
         }
     }
 
+    /// Adds what stands for a name such as `40*ab`: this text, or the given one of this name, so many times. Whether it stands for
+    /// something.
+    fn push_repeated(
+        &self,
+        out: &mut Vec<u8>,
+        alloc: Global,
+        name: &str,
+    ) -> Result<bool, AllocError> {
+        let Some((times, text)) = name.split_once('*') else {
+            return Ok(false);
+        };
+        let Ok(times) = times.parse::<u32>() else {
+            return Ok(false);
+        };
+        let text = self.texts.get(text).map_or(text, |given| given.as_str());
+        push_times(out, alloc, times, text)?;
+        Ok(true)
+    }
+
     /// Adds what stands for a name in angle brackets: a given text, a character or a byte, or, as `40*ab`, a text so many times.
     /// Whether it stands for something.
     fn push_named(&self, out: &mut Vec<u8>, alloc: Global, name: &str) -> Result<bool, AllocError> {
@@ -140,7 +147,7 @@ impl Given {
         }
         match named_char(name) {
             Some(found) => push_char(out, alloc, found),
-            None => push_repeated(out, alloc, name),
+            None => self.push_repeated(out, alloc, name),
         }
     }
 

@@ -2,13 +2,16 @@
 #![tactic(auto)]
 
 mod askers;
+mod calls;
 mod cases;
+mod changes;
 mod files;
 mod filters;
 mod gate;
 mod given;
 mod outcomes;
 mod paths;
+mod refusals;
 mod requests;
 mod rows;
 mod runs;

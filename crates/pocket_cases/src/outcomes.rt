@@ -2,7 +2,10 @@
 use crate::cases::head_of;
 use crate::given::Given;
 use crate::trouble::Trouble;
-use crate::{filters, gate, paths, requests, rows, runs, stores, tables, texts, truths, values};
+use crate::{
+    calls, changes, filters, gate, paths, refusals, requests, rows, runs, stores, tables, texts,
+    truths, values,
+};
 use std::alloc::Global;
 
 /// The outcome of a call that is written in a case.
@@ -11,6 +14,7 @@ pub fn outcome(alloc: Global, given: &Given, case: &str) -> Result<String, Troub
     match call {
         "json" => texts::json(alloc, given.bytes_of(alloc, written)?.as_slice()),
         "request" => requests::request(alloc, given.bytes_of(alloc, written)?.as_slice()),
+        "call" => calls::call(alloc, given, written),
         "open" => stores::opened(alloc, given, written),
         "change" => stores::changed(alloc, given, written),
         _ => outcome_of_text(alloc, given, call, given.text_of(alloc, written)?.as_str()),
@@ -47,10 +51,11 @@ fn outcome_of_text(
         "commit" => stores::committed(alloc, given, text),
         "print" => stores::printed(alloc, text),
         "read" => tables::read(alloc, given, text),
-        "cut" => tables::cut_and_back(alloc, given, text),
-        "target" => requests::target(alloc, text),
+        "apply" => changes::there_and_back(alloc, given, text),
+        "after" => changes::rows_after(alloc, given, text),
         "phrase" => requests::phrase(alloc, text),
-        "work" => requests::work(alloc, text),
+        "why" => refusals::why(alloc, text),
+        "reply" => refusals::bytes(alloc, text),
         "pipe" => runs::pipe(alloc, given, text),
         "row" => runs::bad_row(alloc, given, text),
         "sample" => runs::sample(alloc),

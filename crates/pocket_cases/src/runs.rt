@@ -53,16 +53,24 @@ fn input_of(
     Ok(source_of(alloc, input.as_bytes(), piece, failing)?)
 }
 
-/// Adds the place, the moment and the words of each turn.
+fn push_turn(text: &mut String, turn: &Turn) -> Result<(), AllocError> {
+    let [first, second] = turn.draw.words;
+    write!(
+        text,
+        "{} {} {first} {second}",
+        turn.at,
+        turn.draw.moment.millis()
+    )
+}
+
+/// Adds the place, the moment and the words of each turn, or how many there are where they are more than nine.
 fn push_turns(text: &mut String, turns: &[Turn]) -> Result<(), AllocError> {
-    for turn in turns {
-        let [first, second] = turn.draw.words;
-        write!(
-            text,
-            "{} {} {first} {second}",
-            turn.at,
-            turn.draw.moment.millis()
-        )?;
+    if turns.len() > 9 {
+        return write!(text, "{} turns", turns.len());
+    }
+    for (number, turn) in turns.iter().enumerate() {
+        text.push_str(if number == 0 { "" } else { "; " })?;
+        push_turn(text, turn)?;
     }
     Ok(())
 }

@@ -1,10 +1,7 @@
-// Calls over tables: reads, and records that are cut one after the other and then put back.
-ghost use Rattle.std.specs.Prelude.{◌≡◌, ◌<◌, IfOk, IfSome, IsTrue, OnOk, reverse};
+// Tables, and the calls that read them.
+ghost use Rattle.std.specs.Prelude.{◌≡◌, ◌<◌, IfSome, IsTrue};
 ghost use Rattle.std.specs.Option.{option_copied};
-ghost use Rattle.pocket_types.specs.declared.world.World.{World};
 ghost use Rattle.pocket_resolve.specs.Fields.{collection_named};
-ghost use Rattle.pocket_tables.specs.Deltas.{FitsWorld};
-ghost use Rattle.pocket_tables.specs.Following.{LeadTo};
 ghost use Rattle.pocket_tables.specs.Reads.{IsSingle};
 ghost use Rattle.pocket_tables.specs.Worlds.{collection_at};
 
@@ -15,9 +12,9 @@ use crate::stores::world_of_lines;
 use crate::trouble::Trouble;
 use crate::values::value_of;
 use pocket_keeper::{row_of_collection, row_of_rec};
-use pocket_tables::laws::{record_changes_fit, sound_shelves_are_tabled};
-use pocket_tables::{Tables, apply_next, go_back, is_single};
-use pocket_types::{Collection, Delta, Id, LentShelf, Name, Rec, RecChange, Seq, Steps};
+use pocket_tables::laws::sound_shelves_are_tabled;
+use pocket_tables::{Tables, is_single};
+use pocket_types::{Collection, Id, LentShelf, Name, Rec, Steps};
 use std::alloc::{AllocError, Global};
 use std::marker::Brand;
 use std::sync::ledger::{Blank, Ledger};
@@ -184,91 +181,10 @@ fn push_lent(lines: &mut String, alloc: Global, shelf: LentShelf<'_>) -> Result<
 }
 
 /// The rows of the tables' world.
-fn lines_of(alloc: Global, tables: &Tables) -> Result<String, AllocError> {
+pub fn lines_of(alloc: Global, tables: &Tables) -> Result<String, AllocError> {
     let mut lines = String::new(alloc);
     for shelf in tables.lent(alloc)?.as_slice() {
         push_lent(&mut lines, alloc, *shelf)?;
     }
     Ok(lines)
-}
-
-fn push_totals(told: &mut String, tables: &Tables) -> Result<(), AllocError> {
-    let totals = tables.totals();
-    write!(told, "{} {}; ", totals.records, totals.bytes)
-}
-
-/// The delta that cuts one record.
-fn cut_of(alloc: Global, collection: Name, id: Id) -> Result<Delta, AllocError>
-    ensures { IfOk result (λ delta. (w : World) → FitsWorld delta w) }
-{
-    record_changes_fit();
-    let mut recs = Seq::new(alloc);
-    recs.push(RecChange {
-        collection,
-        id,
-        after: None,
-    })?;
-    Ok(Delta {
-        shelves: Seq::new(alloc),
-        recs,
-    })
-}
-
-/// Cuts the record of a key, `COLLECTION/ID`, and tells the totals then.
-fn cut(
-    alloc: Global,
-    tables: &mut Tables,
-    inverses: &mut Vec<Delta>,
-    told: &mut String,
-    key: &str,
-) -> Result<(), Trouble>
-    ensures { OnOk result ((w : World) → LeadTo tables.old (reverse inverses.old.items) w → LeadTo tables.new (reverse inverses.new.items) w) }
-{
-    let (collection, id) = key.split_once('/').ok_or("no key of a record")?;
-    let id = Id::read(id).ok_or("no id")?;
-    let delta = cut_of(alloc, name_of(alloc, collection)?, id)?;
-    apply_next(alloc, tables, inverses, delta)?;
-    Ok(push_totals(told, tables)?)
-}
-
-/// Cuts the records of these keys, one after the other.
-fn cut_all(
-    alloc: Global,
-    tables: &mut Tables,
-    inverses: &mut Vec<Delta>,
-    told: &mut String,
-    keys: &str,
-) -> Result<(), Trouble>
-    ensures { OnOk result ((w : World) → LeadTo tables.old (reverse inverses.old.items) w → LeadTo tables.new (reverse inverses.new.items) w) }
-{
-    for key in keys.lines() {
-        cut(alloc, tables, inverses, told, key)?;
-    }
-    Ok(())
-}
-
-/// Cuts records one after the other and puts all back: the totals before, after each cut and at the end.
-fn told_cuts(alloc: Global, tables: &mut Tables, keys: &str) -> Result<String, Trouble> {
-    let mut told = String::new(alloc);
-    let mut inverses = Vec::new(alloc);
-    push_totals(&mut told, tables)?;
-    cut_all(alloc, tables, &mut inverses, &mut told, keys)?;
-    go_back(tables, inverses);
-    push_totals(&mut told, tables)?;
-    Ok(told)
-}
-
-/// Whether the tables' rows are these.
-fn has_lines(alloc: Global, tables: &Tables, lines: &String) -> Result<bool, AllocError> {
-    Ok(lines_of(alloc, tables)? == *lines)
-}
-
-/// What is told of records that are cut one after the other and put back, and whether the rows are then as they were.
-pub fn cut_and_back(alloc: Global, given: &Given, keys: &str) -> Result<String, Trouble> {
-    let mut tables = tables_of(alloc, given)?;
-    let before = lines_of(alloc, &tables)?;
-    let mut told = told_cuts(alloc, &mut tables, keys)?;
-    let same = has_lines(alloc, &tables, &before)?;
-    write!(&mut told, "as before: {same}")?;
-    Ok(told)
 }

@@ -1,5 +1,3 @@
-pub mod HeaderLemmas
-pub mod FramingLemmas
 pub mod OpeningLemmas
 pub mod ReadingLemmas
 pub mod ViewLemmas

@@ -20,10 +20,11 @@ use Rattle.pocket_store.specs.SoundStates.{IsSoundRecIn, IsSoundShelf, IsSoundWo
 use Rattle.pocket_tables.specs.Worlds.{rec_at}
 use Rattle.pocket_tables.proofs.KeyLemmas.{key_false}
 use Rattle.pocket_gate.proofs.Tests.{found_bears_name}
+use Rattle.pocket_api.specs.Refusals.{because}
 use Rattle.pocket_core.specs.Outcomes.{Outcome}
 use Rattle.pocket_core.specs.Views.{keeps_out, rec_named_outcome, view_outcome}
-use Rattle.pocket_core.specs.declared.reply.Why.TheVariants as why
-use Rattle.pocket_core.specs.declared.work.Target.{Target}
+use Rattle.pocket_api.specs.declared.why.Why.TheVariants as why
+use Rattle.pocket_api.specs.declared.call.Target.{Target}
 
 -- what is found is one of the items
 found_has : {X : Type 0} (P : X → Type 0) (p : X → Bool) (xs : List X) (x : X) → AllByRecursion P xs → find p xs ≡ Some x → P x
@@ -64,18 +65,18 @@ module _ (w : World) (ask : Ask) (target : Target) where
   found = collection_named (collections_of w) target.collection
 
   abbrev pub unlocked : Collection → Outcome
-  unlocked c = refuse (keeps_out ask.caller c.view_rule) (why.Locked c.name action.View) >>= λ _. rec_named_outcome w ask c target.id
+  unlocked c = refuse (keeps_out ask.caller c.view_rule) (because (why.Locked c.name action.View)) >>= λ _. rec_named_outcome w ask c target.id
 
-  pub view_without : found ≡ None → view_outcome w ask target ≡ Err why.NoCollection
+  pub view_without : found ≡ None → view_outcome w ask target ≡ Err (because why.NoCollection)
   unfolding view_outcome
-  view_without e = ap (λ o. or_refuse o why.NoCollection >>= unlocked) e
+  view_without e = ap (λ o. or_refuse o (because why.NoCollection) >>= unlocked) e
 
   pub view_found : (c : Collection) → found ≡ Some c → view_outcome w ask target ≡ unlocked c
   unfolding view_outcome
-  view_found c e = ap (λ o. or_refuse o why.NoCollection >>= unlocked) e
+  view_found c e = ap (λ o. or_refuse o (because why.NoCollection) >>= unlocked) e
 
-  pub view_locked : (c : Collection) → found ≡ Some c → keeps_out ask.caller c.view_rule ≡ true → view_outcome w ask target ≡ Err (why.Locked c.name action.View)
-  view_locked c e locked = view_found c e ∙ ap (λ b. refuse b (why.Locked c.name action.View) >>= λ _. rec_named_outcome w ask c target.id) locked
+  pub view_locked : (c : Collection) → found ≡ Some c → keeps_out ask.caller c.view_rule ≡ true → view_outcome w ask target ≡ Err (because (why.Locked c.name action.View))
+  view_locked c e locked = view_found c e ∙ ap (λ b. refuse b (because (why.Locked c.name action.View)) >>= λ _. rec_named_outcome w ask c target.id) locked
 
   pub view_open : (c : Collection) → found ≡ Some c → keeps_out ask.caller c.view_rule ≡ false → view_outcome w ask target ≡ rec_named_outcome w ask c target.id
-  view_open c e free = view_found c e ∙ ap (λ b. refuse b (why.Locked c.name action.View) >>= λ _. rec_named_outcome w ask c target.id) free
+  view_open c e free = view_found c e ∙ ap (λ b. refuse b (because (why.Locked c.name action.View)) >>= λ _. rec_named_outcome w ask c target.id) free

@@ -4,44 +4,31 @@ use Rattle.pocket_types.specs.Chains.{◌>>=◌, refuse}
 use Rattle.pocket_types.specs.Json.{printed}
 use Rattle.pocket_types.specs.declared.json.Jv.{Jv}
 use Rattle.pocket_types.specs.declared.requests.Ask.{Ask}
-use Rattle.pocket_types.specs.declared.requests.Caller.{Caller}
-use Rattle.pocket_types.specs.declared.requests.Context.TheVariants as context
 use Rattle.pocket_types.specs.declared.world.World.{World}
+use Rattle.pocket_api.specs.Asks.{bare_ask}
+use Rattle.pocket_api.specs.Refusals.{because, refusal_jv}
 use Rattle.pocket_core.specs.Outcomes.{Body, Empty, Enters, Outcome, Shows, Tally, Tree, is_entered, state_after}
-use Rattle.pocket_core.specs.Refusals.{refusal_jv, status_of}
 use Rattle.pocket_core.specs.States.{MachineState, sender}
 use Rattle.pocket_core.specs.Views.{view_outcome}
-use Rattle.pocket_core.specs.declared.reply.Reply.{Reply}
-use Rattle.pocket_core.specs.declared.reply.ReplyBody.{ReplyBody}
-use Rattle.pocket_core.specs.declared.reply.ReplyBody.TheVariants as reply_body
-use Rattle.pocket_core.specs.declared.reply.Why.{Why}
-use Rattle.pocket_core.specs.declared.reply.Why.TheVariants as why
-use Rattle.pocket_core.specs.declared.work.Call.{Call}
-use Rattle.pocket_core.specs.declared.work.Call.TheVariants as call
-use Rattle.pocket_core.specs.declared.work.Work.{Work}
+use Rattle.pocket_api.specs.declared.reply.Reply.{Reply}
+use Rattle.pocket_api.specs.declared.reply.ReplyBody.{ReplyBody}
+use Rattle.pocket_api.specs.declared.reply.ReplyBody.TheVariants as reply_body
+use Rattle.pocket_api.specs.declared.why.Why.{Why}
+use Rattle.pocket_api.specs.declared.why.Why.TheVariants as why
+use Rattle.pocket_api.specs.declared.call.Call.{Call}
+use Rattle.pocket_api.specs.declared.call.Call.TheVariants as call
+use Rattle.pocket_api.specs.declared.work.Work.{Work}
 
 -- ---- outcomes
 
--- what rules see of a work that sends no fields
-abbrev pub ask_of : Caller → Work → Ask
-ask_of who work = record {
-  caller = who;
-  method = work.method;
-  context = context.Default;
-  headers = work.headers;
-  query = work.query;
-  body = [];
-  moment = work.draw.moment;
-}
-
--- the outcome of each call
+-- the outcome of each call; one that isn't built yet has no route
 abbrev pub call_outcome : World → Ask → Call → Outcome
-call_outcome w ask call.NoRoute = Err why.NoRoute
 call_outcome w ask (call.View target shown) = view_outcome w ask target
+call_outcome w ask _ = Err (because why.NoRoute)
 
 -- the outcome of a work in a state
 abbrev pub work_outcome : MachineState → Work → Outcome
-work_outcome s work = call_outcome s.world (ask_of (sender s work) work) work.call
+work_outcome s work = call_outcome s.world (bare_ask (sender s work) work) work.call
 
 -- whether a history has no room for one more command
 abbrev pub is_full : Tally → Work → Bool
@@ -51,7 +38,7 @@ is_full t work = nat_le 1000000 t.entries || nat_lt 268435456 (t.bytes + work.co
 unfoldable pub outcome : Tally → MachineState → Work → Outcome
 outcome t s work = do
   done ← work_outcome s work
-  _ ← refuse (is_entered done && is_full t work) (why.HistoryFull t.entries (t.bytes + work.cost))
+  _ ← refuse (is_entered done && is_full t work) (because (why.HistoryFull t.entries (t.bytes + work.cost)))
   Ok done
 
 -- ---- histories
@@ -94,7 +81,7 @@ accepted_answer (Tree tree) at enters = record { status = 200; body = Some tree;
 abbrev pub answer_of : ℕ → Outcome → Answer
 answer_of at (Ok (Shows body)) = accepted_answer body at false
 answer_of at (Ok (Enters s body)) = accepted_answer body at true
-answer_of at (Err cause) = record { status = status_of cause; body = Some (refusal_jv cause); why = cause; at = at; enters = false }
+answer_of at (Err r) = record { status = r.status; body = Some (refusal_jv r.status r.detail); why = r.why; at = at; enters = false }
 
 -- the answer to a work after a history from an opened state
 abbrev pub answer : MachineState → List Work → Work → Answer
@@ -113,13 +100,6 @@ pub record IsAnswer (a : Answer) (reply : Reply) : Type 0 where
   pub body : reply.body ≡ body_of a.body
   pub why : reply.why ≡ a.why
   pub at : reply.at ≡ a.at
-
--- the reply says that there is no memory
-pub record IsNoMemory (place : ℕ) (reply : Reply) : Type 0 where
-  pub status : reply.status ≡ 507
-  pub body : reply.body ≡ reply_body.NoMemory
-  pub why : reply.why ≡ why.Memory
-  pub at : reply.at ≡ place
 
 -- the reply enters its work: it is the answer, and the answer enters it
 abbrev pub EntersWork : Answer → Reply → Type 0

@@ -4,8 +4,5 @@ pub mod Faults
 pub mod Kept
 pub mod Opening
 pub mod Outcomes
-pub mod Refusals
-pub mod Replies
 pub mod States
 pub mod Views
-pub mod Works

@@ -1,7 +1,7 @@
 -- What a call comes to: a refusal, something shown, or another state. Answer and effect follow from the one outcome.
 use Rattle.std.specs.Prelude.{ℕ, Bool, true, false, Result, Ok}
 use Rattle.pocket_types.specs.declared.json.Jv.{Jv}
-use Rattle.pocket_core.specs.declared.reply.Why.{Why}
+use Rattle.pocket_api.specs.Refusals.{Refusal}
 use Rattle.pocket_core.specs.States.{MachineState}
 
 -- what an accepted call answers: nothing, or a tree
@@ -14,9 +14,9 @@ pub data Accepted : Type 0 where
   Shows : Body → Accepted
   Enters : MachineState → Body → Accepted
 
--- an accepted call, or the cause of a refusal
+-- an accepted call, or a refusal
 abbrev pub Outcome : Type 0
-Outcome = Result Accepted Why
+Outcome = Result Accepted Refusal
 
 -- how many commands were accepted before, and their bytes
 pub record Tally : Type 0 where

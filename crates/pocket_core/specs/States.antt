@@ -17,7 +17,7 @@ use Rattle.pocket_store.specs.SoundStates.{IsSoundStored}
 use Rattle.pocket_store.specs.Stores.{stored_rows}
 use Rattle.pocket_store.specs.declared.stored.Stored.{Stored}
 use Rattle.pocket_core.specs.Clients.{Client}
-use Rattle.pocket_core.specs.declared.work.Work.{Work}
+use Rattle.pocket_api.specs.declared.work.Work.{Work}
 
 -- a state: all collections with their records, the administrator's token, the tokens rising by text, and the clients as they were opened
 pub record MachineState : Type 0 where

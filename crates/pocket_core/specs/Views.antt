@@ -17,9 +17,9 @@ use Rattle.pocket_gate.specs.Rules.{is_admin, verdict}
 use Rattle.pocket_gate.specs.declared.verdict.Verdict.{Verdict}
 use Rattle.pocket_gate.specs.declared.verdict.Verdict.TheVariants as verdict_is
 use Rattle.pocket_core.specs.Outcomes.{Outcome, Shows, Tree}
-use Rattle.pocket_core.specs.declared.reply.Why.{Why}
-use Rattle.pocket_core.specs.declared.reply.Why.TheVariants as why
-use Rattle.pocket_core.specs.declared.work.Target.{Target}
+use Rattle.pocket_api.specs.Refusals.{Refusal, because}
+use Rattle.pocket_api.specs.declared.why.Why.TheVariants as why
+use Rattle.pocket_api.specs.declared.call.Target.{Target}
 
 abbrev pub is_locked : Rule → Bool
 is_locked rule.Locked = true
@@ -29,11 +29,11 @@ is_locked _ = false
 abbrev pub keeps_out : Caller → Rule → Bool
 keeps_out who r = not (is_admin who) && is_locked r
 
--- a verdict that keeps the caller out is the cause of a refusal
-abbrev pub admitted : Verdict → Result (Unit {0}) Why
+-- a verdict that keeps the caller out is a refusal
+abbrev pub admitted : Verdict → Result (Unit {0}) Refusal
 admitted verdict_is.Allowed = Ok tt
-admitted (verdict_is.Locked c act) = Err (why.Locked c act)
-admitted (verdict_is.RuleFalse c act) = Err (why.RuleFalse c act)
+admitted (verdict_is.Locked c act) = Err (because (why.Locked c act))
+admitted (verdict_is.RuleFalse c act) = Err (because (why.RuleFalse c act))
 
 -- a record whose rule lets the caller through is shown, with hidden fields for the administrator alone
 abbrev pub rec_outcome : World → Ask → Collection → Rec → Outcome
@@ -44,12 +44,12 @@ rec_outcome w ask c r = do
 -- the record of a collection, where it is there
 abbrev pub rec_named_outcome : World → Ask → Collection → List ℕ → Outcome
 rec_named_outcome w ask c id = do
-  r ← or_refuse (rec_at w c.name id) why.NoRecord
+  r ← or_refuse (rec_at w c.name id) (because why.NoRecord)
   rec_outcome w ask c r
 
 -- a view: the collection first, then its locked rule, then the record, then what the rule says of it
 unfoldable pub view_outcome : World → Ask → Target → Outcome
 view_outcome w ask target = do
-  c ← or_refuse (collection_named (collections_of w) target.collection) why.NoCollection
-  _ ← refuse (keeps_out ask.caller c.view_rule) (why.Locked c.name action.View)
+  c ← or_refuse (collection_named (collections_of w) target.collection) (because why.NoCollection)
+  _ ← refuse (keeps_out ask.caller c.view_rule) (because (why.Locked c.name action.View))
   rec_named_outcome w ask c target.id

@@ -3,11 +3,11 @@ ghost use Rattle.std.specs.Prelude.{◌≡◌, IfOk};
 ghost use Rattle.std.specs.Option.{option_copied, option_map_or};
 ghost use Rattle.pocket_types.specs.Order.{Rises};
 ghost use Rattle.pocket_types.specs.declared.requests.Caller.TheVariants as caller;
-ghost use Rattle.pocket_core.specs.Answers.{ask_of};
+ghost use Rattle.pocket_api.specs.Asks.{bare_ask};
 ghost use Rattle.pocket_tables.specs.Places.{IsPlaceOf};
 ghost use Rattle.pocket_core.specs.States.{bearer, member_at, text_of, token_of_text};
 
-use crate::work::{Call, Work};
+use pocket_api::{Call, Work};
 use pocket_keeper::Token;
 use pocket_types::{Ask, Caller, Context, Moment, Seq, Text};
 use std::alloc::{AllocError, Global};
@@ -74,7 +74,7 @@ pub(crate) fn find_sender(
 
 /// What rules see of a work, and what it calls for.
 pub(crate) fn asked(alloc: Global, caller: Caller, work: Work) -> (Ask, Call)
-    ensures ask { result.0 ≡ ask_of caller work }
+    ensures ask { result.0 ≡ bare_ask caller work }
     ensures call { result.1 ≡ work.call }
 {
     let Work {

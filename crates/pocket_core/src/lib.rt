@@ -5,21 +5,13 @@
 #![tactic(auto)]
 
 mod callers;
-mod framing;
 pub mod laws;
 mod opening;
 mod refusals;
-mod reply;
-mod routing;
 mod state;
 mod views;
-mod work;
 
-pub use framing::{REPLY_507, REPLY_507_CLOSE, no_memory_reply, reply_bytes};
 pub use opening::StartFault;
 pub use pocket_keeper::Token;
 pub use pocket_store::{StoreFault, Stored, stored_of};
-pub use reply::{Reply, ReplyBody, Why};
-pub use routing::work_of;
 pub use state::State;
-pub use work::{Call, Draw, Shown, Target, Work};

@@ -2,15 +2,15 @@ ghost use Rattle.std.specs.Prelude.{◌≡◌, ◌⊎◌, ◌≤◌, [], IfErr, 
 ghost use Rattle.pocket_types.specs.Causes.{StaysUntold};
 ghost use Rattle.pocket_keeper.specs.Keeping.{AreAsBefore};
 ghost use Rattle.pocket_store.specs.SoundStates.{IsSoundStored};
-ghost use Rattle.pocket_core.specs.Answers.{IsAnswer, IsHistoryAfter, IsNoMemory, after, answer, answer_of, work_outcome};
+ghost use Rattle.pocket_api.specs.Refusals.{IsNoMemory};
+ghost use Rattle.pocket_core.specs.Answers.{IsAnswer, IsHistoryAfter, after, answer, answer_of, work_outcome};
 ghost use Rattle.pocket_core.specs.Opening.{AreRowsOf, IsOpened, IsStartFault};
 ghost use Rattle.pocket_core.specs.States.{IsSoundState, opened_state, sender};
 
 use crate::callers::{asked, find_sender};
 use crate::opening::StartFault;
-use crate::reply::{Reply, ReplyBody, Why};
 use crate::views::answer_call;
-use crate::work::Work;
+use pocket_api::{Reply, Work};
 use pocket_gate::Rules;
 use pocket_keeper::{Committer, KeepFault, Keeper, Token};
 use pocket_store::{Stored, stored_of};
@@ -68,18 +68,6 @@ fn open_state(alloc: Global, stored: Stored, admin: Text) -> Result<State, Alloc
         journal: Seq::new(alloc),
         opening,
     })
-}
-
-/// The reply that there is no memory.
-fn no_memory(at: u64) -> Reply
-    ensures { IsNoMemory at result }
-{
-    Reply {
-        status: 507,
-        body: ReplyBody::NoMemory,
-        at,
-        why: Why::Memory,
-    }
 }
 
 impl State {
@@ -153,7 +141,7 @@ impl State {
         let at = self.journal.len() as u64;
         match self.answer(alloc, work, at, steps) {
             Ok(reply) => reply,
-            Err(_) => no_memory(at),
+            Err(_) => Reply::no_memory(at),
         }
     }
 

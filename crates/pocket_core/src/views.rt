@@ -1,6 +1,7 @@
 // Views of records by rule.
 ghost use Rattle.std.specs.Prelude.{◌≡◌, ◌≤◌, false, IfOk, Ok, Some};
 ghost use Rattle.std.specs.Option.{option_copied};
+ghost use Rattle.pocket_types.specs.Json.{printed};
 ghost use Rattle.pocket_types.specs.Within.{collections_of};
 ghost use Rattle.pocket_ops.specs.Trees.{rec_jv};
 ghost use Rattle.pocket_resolve.specs.Fields.{collection_named};
@@ -12,13 +13,12 @@ ghost use Rattle.pocket_core.specs.Answers.{IsAnswer, answer_of, call_outcome};
 ghost use Rattle.pocket_core.specs.Outcomes.{Shows, Tree};
 ghost use Rattle.pocket_core.specs.Views.{keeps_out, rec_named_outcome, rec_outcome, view_outcome};
 
-use crate::refusals::{refuse, text_of};
-use crate::reply::{Reply, ReplyBody, Why};
-use crate::work::{Call, Target};
+use crate::refusals::refuse;
+use pocket_api::{Call, Reply, Target, Why};
 use pocket_gate::{Rules, Verdict};
 use pocket_ops::rec_jv;
 use pocket_tables::Tables;
-use pocket_types::{Action, Ask, Caller, Collection, Id, Name, Rec, Rule, Steps};
+use pocket_types::{Action, Ask, Caller, Collection, Id, Jv, Name, Rec, Rule, Steps, Text};
 use std::alloc::{AllocError, Global};
 use std::sync::ledger::Ledger;
 
@@ -60,6 +60,15 @@ fn find_rec<'a, L: Ledger>(
     }
 }
 
+/// The compact text of a tree.
+fn text_of(alloc: Global, tree: Jv) -> Result<Text, AllocError>
+    ensures { IfOk result (λ text. text ≡ printed tree) }
+{
+    let text = tree.print(alloc);
+    drop(tree);
+    text
+}
+
 /// The record as its caller is shown it.
 fn show(
     alloc: Global,
@@ -71,12 +80,7 @@ fn show(
     ensures { IfOk result (IsAnswer (answer_of at (Ok (Shows (Tree (rec_jv collection.now rec.now (is_admin caller.now))))))) }
 {
     let tree = rec_jv(alloc, collection, rec, is_admin_caller(caller))?;
-    Ok(Reply {
-        status: 200,
-        body: ReplyBody::Made(text_of(alloc, tree)?),
-        at,
-        why: Why::Done,
-    })
+    Ok(Reply::shown(text_of(alloc, tree)?, at))
 }
 
 /// A view of a record, by what its rule says.
@@ -152,7 +156,7 @@ fn answer_view<L: Ledger>(
     answer_id(alloc, tables, rules, ask, collection, id, at, steps)
 }
 
-/// The answer to a call.
+/// The answer to a call. Those that aren't built yet are answered as if they had no route.
 pub(crate) fn answer_call<L: Ledger>(
     alloc: Global,
     tables: &Tables,
@@ -168,9 +172,9 @@ pub(crate) fn answer_call<L: Ledger>(
     ensures steps { steps.old ≤ steps.new }
 {
     match call {
-        Call::NoRoute => refuse(alloc, Why::NoRoute, at),
         Call::View { target, shown: _ } => answer_view(
             alloc, tables, rules, ask, target, at, steps,
         ),
+        _ => refuse(alloc, Why::NoRoute, at),
     }
 }

@@ -1,8 +1,6 @@
 use crate::keeper::keeper_of;
-use pocket_core::{
-    REPLY_507, REPLY_507_CLOSE, Reply, ReplyBody, StartFault, State, Why, no_memory_reply,
-    reply_bytes,
-};
+use pocket_api::{REPLY_507, REPLY_507_CLOSE, Reply, ReplyBody, Why, no_memory_reply, reply_bytes};
+use pocket_core::{StartFault, State};
 use pocket_keeper::MemoryKeeper;
 use pocket_types::Text;
 use std::alloc::{AllocError, Global};

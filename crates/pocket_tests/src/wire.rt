@@ -9,7 +9,7 @@ use std::alloc::{AllocError, Global};
 use std::process::Abort;
 use std::test::Fail;
 
-/// A request without headers, in words.
+/// A request with the number of its headers, in words.
 fn request_text(alloc: Global, request: &Request) -> Result<String, AllocError> {
     format!(in alloc;
         "{:?} {} {} {} {} {}",
@@ -37,76 +37,105 @@ fn bytes(alloc: Global, text: &str) -> Result<Seq<u8>, AllocError> {
     Ok(Seq::from_vec(text.as_bytes().to_vec(alloc)?))
 }
 
-/// Tries what comes next behind the bytes of an inbox.
+fn inbox_of(alloc: Global, text: &str) -> Result<Inbox, AllocError> {
+    Ok(Inbox {
+        left: bytes(alloc, text)?,
+    })
+}
+
+/// Tries what comes next on a connection.
 fn try_next<S: Source>(
     rt: &impl Abort,
     alloc: Global,
-    left: &str,
+    inbox: &mut Inbox,
     source: &mut S,
     expected: &str,
 ) -> Result<(), Fail> {
-    let mut inbox = Inbox {
-        left: bytes(alloc, left)?,
-    };
-    let answer = next_request(alloc, &mut inbox, source);
+    let answer = next_request(alloc, inbox, source);
     assert_eq!(rt; words(alloc, answer)?.as_str(), expected);
-    assert!(rt; inbox.left.is_empty());
     Ok(())
 }
 
+// A fault loses no byte, so the next call goes on.
 #[test]
-fn goes_on_from_its_inbox(rt: HostRuntime) -> Result<(), Fail> {
+fn goes_on_after_a_fault(rt: HostRuntime) -> Result<(), Fail> {
     let alloc = rt.alloc();
-    let rest = bytes(alloc, "llections/a/records/b HTTP/1.1\r\n\r\n")?;
-    let mut source = MemorySource::new(rest, 7, vec![in alloc; 2]?);
-    try_next(
-        &rt,
-        alloc,
-        "GET /api/co",
-        &mut source,
-        "the input can't be read",
-    )?;
-    try_next(
-        &rt,
-        alloc,
-        "GET /api/collections/a/re",
-        &mut source,
-        "Get /api/collections/a/records/b 0 0 false 45",
-    )?;
-    try_next(&rt, alloc, "", &mut source, "end")
-}
-
-/// Tries what comes next in a request of so many bytes for a record with a long id, where the read with this number fails.
-fn try_long(
-    rt: &impl Abort,
-    alloc: Global,
-    len: usize,
-    failing: u64,
-    end: &str,
-) -> Result<(), Fail> {
-    let mut text = String::from_str(alloc, "GET /api/collections/notes/records/")?;
-    for _ in 48..len {
-        text.push('a')?;
+    let fault = "the input can't be read";
+    let rest = bytes(alloc, "T /a HTTP/1.1\r\nContent-Length: 3\r\n\r\nabc")?;
+    let mut source = MemorySource::new(rest, 7, vec![in alloc; 0, 2, 7]?);
+    let mut inbox = inbox_of(alloc, "POS")?;
+    for expected in [fault, fault, fault, "Post /a 1 3 false 42", "end"] {
+        try_next(&rt, alloc, &mut inbox, &mut source, expected)?;
     }
-    text.push_str(" HTTP/1.1\r\n\r\n")?;
-    let bytes = Seq::from_vec(text.into_bytes());
-    let mut source = MemorySource::new(bytes, 100_000, vec![in alloc; failing]?);
-    let answer = next_request(alloc, &mut Inbox::new(alloc), &mut source);
-    assert!(rt;
-        words(alloc, answer)?.as_str().ends_with(end),
-        "{len} and {failing}"
-    );
     Ok(())
 }
 
-// Reads are of 512 bytes, so that the 33rd is the last.
+/// Tries what comes next where nothing can be read behind these bytes.
+fn try_decided(rt: &impl Abort, alloc: Global, left: &str, expected: &str) -> Result<(), Fail> {
+    let mut source = MemorySource::new(Seq::new(alloc), 1, vec![in alloc; 0]?);
+    let mut inbox = inbox_of(alloc, left)?;
+    try_next(rt, alloc, &mut inbox, &mut source, expected)
+}
+
 #[test]
-fn reads_no_further_than_16384_bytes(rt: HostRuntime) -> Result<(), Fail> {
+fn reads_nothing_where_the_inbox_decides(rt: HostRuntime) -> Result<(), Fail> {
     let alloc = rt.alloc();
-    try_long(&rt, alloc, 16_384, 99, "a 0 0 false 16384")?;
-    try_long(&rt, alloc, 16_385, 99, "refused 501")?;
-    try_long(&rt, alloc, 20_000, 32, "the input can't be read")?;
-    try_long(&rt, alloc, 20_000, 33, "refused 501")
+    let fault = "the input can't be read";
+    try_decided(&rt, alloc, "GET /a HTTP/1.1\r\n\r\n", "Get /a 0 0 false 19")?;
+    try_decided(&rt, alloc, "GET /a HTTP/1.1\n\n...", "Get /a 0 0 false 17")?;
+    try_decided(&rt, alloc, "GET * HTTP/1.1\r\n\r\n", "refused 400")?;
+    try_decided(&rt, alloc, "", fault)?;
+    try_decided(&rt, alloc, "GET /a HTTP/1.1\r\n\r", fault)?;
+    let head = "PUT /a HTTP/1.1\r\nContent-Length: 1\r\n\r\n";
+    try_decided(&rt, alloc, head, fault)
+}
+
+/// Two requests, of 42 and of 21 bytes, of which the second asks for the close.
+const BOTH: &str = "POST /a HTTP/1.1\r\nContent-Length: 3\r\n\r\nabc\r\nGET /b HTTP/1.0\r\n\r\n";
+
+/// What the first bytes of the two requests are.
+fn told_of(len: usize) -> [&'static str; 2] {
+    match len {
+        0 => ["end", "end"],
+        1..=41 => ["truncated", "truncated"],
+        42 => ["Post /a 1 3 false 42", "end"],
+        43..=62 => ["Post /a 1 3 false 42", "truncated"],
+        _ => ["Post /a 1 3 false 42", "Get /b 0 0 true 21"],
+    }
+}
+
+/// Tries bytes of which so many stand in the inbox and the others come in pieces of at most so many.
+fn try_cut(rt: &impl Abort, alloc: Global, text: &str, cut: usize, piece: usize) -> Result<(), Fail>
+    requires { 0 < piece }
+{
+    let (left, rest) = text.split_at_checked(cut).unwrap_or((text, ""));
+    let mut inbox = inbox_of(alloc, left)?;
+    let mut source = MemorySource::new(bytes(alloc, rest)?, piece, Vec::new(alloc));
+    for expected in told_of(text.len()) {
+        try_next(rt, alloc, &mut inbox, &mut source, expected)?;
+    }
+    Ok(())
+}
+
+#[test]
+fn input_may_end_after_each_byte(rt: HostRuntime) -> Result<(), Fail> {
+    for len in 0..64 {
+        let (text, _) = BOTH.split_at_checked(len).unwrap_or((BOTH, ""));
+        for piece in [1, 7, 100] {
+            try_cut(&rt, rt.alloc(), text, 0, piece)?;
+        }
+    }
+    Ok(())
+}
+
+#[test]
+fn bytes_may_be_cut_everywhere(rt: HostRuntime) -> Result<(), Fail> {
+    for cut in 0..64 {
+        for piece in [1, 7, 100] {
+            try_cut(&rt, rt.alloc(), BOTH, cut, piece)?;
+        }
+    }
+    Ok(())
 }
 
 /// A link whose source has these bytes and whose sink is empty. The second call of each fails.
@@ -138,17 +167,15 @@ fn writes_all_or_a_front(rt: HostRuntime) -> Result<(), Fail> {
 
 #[test]
 fn adapts_readers(rt: HostRuntime) -> Result<(), Fail> {
+    let alloc = rt.alloc();
     let mut source = HostSource {
-        inner: b"GET /api/collections/a/records/b HTTP/1.1\r\n\r\n".as_slice(),
+        inner: BOTH.as_bytes(),
         faults: 0,
     };
-    try_next(
-        &rt,
-        rt.alloc(),
-        "",
-        &mut source,
-        "Get /api/collections/a/records/b 0 0 false 45",
-    )?;
+    let mut inbox = Inbox::new(alloc);
+    for expected in told_of(63) {
+        try_next(&rt, alloc, &mut inbox, &mut source, expected)?;
+    }
     assert_eq!(rt; source.faults, 0);
     Ok(())
 }

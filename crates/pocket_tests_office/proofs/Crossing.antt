@@ -10,6 +10,8 @@ use Rattle.pocket_types.proofs.seq.Seq.TheSendSync as seq
 use Rattle.pocket_types.proofs.text.Text.TheSendSync as text
 use Rattle.pocket_types.proofs.boxed.Boxed.TheSendSync as boxed
 use Rattle.pocket_types.proofs.records.Collection.TheSendSync as collection
+use Rattle.pocket_types.proofs.requests.Method.TheSendSync as method
+use Rattle.pocket_types.proofs.requests.Pair.TheSendSync as pair
 use Rattle.pocket_types.proofs.resolved.Leaf.TheSendSync as leaf
 use Rattle.pocket_types.proofs.resolved.Resolved.TheLaws.TheKnot as filter
 use Rattle.pocket_types.specs.contracts.records.Cell as cell
@@ -26,7 +28,14 @@ use Rattle.pocket_plan.specs.contracts.guard.Guard as guard
 use Rattle.pocket_gate.specs.contracts.rules.Rules as rules
 use Rattle.pocket_keeper.proofs.memory.MemoryKeeper.TheSendSync as keeper
 use Rattle.pocket_keeper.proofs.tokens.Token.TheSendSync as token
-use Rattle.pocket_core.proofs.work.Work.TheSendSync as work
+use Rattle.pocket_api.proofs.call.ListQuery.TheSendSync as list_query
+use Rattle.pocket_api.proofs.call.Shown.TheSendSync as shown
+use Rattle.pocket_api.proofs.call.Target.TheSendSync as target
+use Rattle.pocket_api.proofs.work.Draw.TheSendSync as draw
+use Rattle.pocket_api.specs.contracts.body.Body as body
+use Rattle.pocket_api.specs.contracts.body.Body.TheInside as body_inside
+use Rattle.pocket_api.specs.contracts.call.Call as call
+use Rattle.pocket_api.specs.contracts.work.Work as work
 use Rattle.pocket_core.specs.contracts.state.State as state
 use Rattle.pocket_core.specs.contracts.state.State.TheInside as state_inside
 use Rattle.pocket_tests_office.specs.contracts.office.Office as office
@@ -67,8 +76,20 @@ guard_send = search (crossing, view_of_send) depth 40 fits 20000
 rules_send : IsSend rules.the_row
 rules_send = search (crossing, view_of_send, guard_send) depth 40 fits 20000
 
+body_inside_send : IsSend body_inside.the_row
+body_inside_send = search crossing depth 40 fits 20000
+
+body_send : IsSend body.the_row
+body_send = view_send body_inside.the_row _ _ _ _ body_inside_send
+
+call_send : IsSend call.the_row
+call_send = search (crossing, body_send, list_query.the_send, shown.the_send, target.the_send) depth 40 fits 20000
+
+work_send : IsSend work.the_row
+work_send = search (crossing, call_send, draw.the_send, method.the_send, pair.the_send) depth 40 fits 20000
+
 state_inside_send : IsSend state_inside.the_row
-state_inside_send = search (crossing, tables_send, rules_send, token.the_send, work.the_send) depth 40 fits 20000
+state_inside_send = search (crossing, tables_send, rules_send, token.the_send, work_send) depth 40 fits 20000
 
 state_send : IsSend state.the_row
 state_send = view_send state_inside.the_row _ _ _ _ state_inside_send

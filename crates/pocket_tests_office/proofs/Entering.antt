@@ -2,10 +2,11 @@
 use Rattle.std.proofs.Common.{◌≡◌, ◌⊎◌, ℕ, Bool, true, false, List, Ok, Err, IsTrue, inl, inr, sym, ◌∙◌, refl, arith}
 use Rattle.std.proofs.lemmas.Bool.{false≢true}
 use Rattle.pocket_desk.specs.Machine.{AddsWhere}
-use Rattle.pocket_core.specs.Answers.{Answer, EntersWork, IsAnswer, IsHistoryAfter, IsNoMemory, answer_of}
+use Rattle.pocket_api.specs.Refusals.{IsNoMemory}
+use Rattle.pocket_core.specs.Answers.{Answer, EntersWork, IsAnswer, IsHistoryAfter, answer_of}
 use Rattle.pocket_core.specs.Outcomes.{Empty, Enters, Outcome, Shows, Tree}
-use Rattle.pocket_core.specs.declared.reply.Reply.{Reply}
-use Rattle.pocket_core.specs.declared.work.Work.{Work}
+use Rattle.pocket_api.specs.declared.reply.Reply.{Reply}
+use Rattle.pocket_api.specs.declared.work.Work.{Work}
 
 -- no answer that enters says that there is no memory
 entering_status : (at : ℕ) (o : Outcome) → IsTrue (answer_of at o).enters → (answer_of at o).status ≡ 507 → ⊥
@@ -13,7 +14,7 @@ entering_status at (Ok (Enters s Empty)) h e = absurd (omega (arith, e))
 entering_status at (Ok (Enters s (Tree t))) h e = absurd (omega (arith, e))
 entering_status at (Ok (Shows Empty)) h e = absurd (false≢true h)
 entering_status at (Ok (Shows (Tree t))) h e = absurd (false≢true h)
-entering_status at (Err cause) h e = absurd (false≢true h)
+entering_status at (Err refusal) h e = absurd (false≢true h)
 
 by_entering : (a : Answer) (reply : Reply) (work : Work) (old new : List Work) (b : Bool) → a.enters ≡ b → IsAnswer a reply → IsHistoryAfter a reply work old new
     → AddsWhere (EntersWork a reply) old work new

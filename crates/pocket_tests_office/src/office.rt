@@ -1,10 +1,12 @@
 // A desk over a state and its keeper.
 ghost use Rattle.std.specs.Prelude.{◌≡◌, ◌<◌, ◌⊎◌, [], IfOk, IfSome, length};
 ghost use Rattle.pocket_desk.specs.Pass.{IsOf};
-ghost use Rattle.pocket_core.specs.Answers.{EntersWork, IsAnswer, IsHistoryAfter, IsNoMemory, answer};
+ghost use Rattle.pocket_api.specs.Refusals.{IsNoMemory};
+ghost use Rattle.pocket_core.specs.Answers.{EntersWork, IsAnswer, IsHistoryAfter, answer};
 
 use pocket::sample_rows;
-use pocket_core::{Call, Draw, Reply, Shown, State, Target, Work};
+use pocket_api::{Call, Draw, Reply, Shown, Target, Work};
+use pocket_core::State;
 use pocket_desk::{Desk, Machine, Pass};
 use pocket_keeper::{Committer, MemoryKeeper};
 use pocket_types::{Method, Moment, Seq, Steps, Text};
@@ -40,7 +42,8 @@ impl Model for Office {
 
 impl Machine for Office {
     ghost use Rattle.std.specs.Prelude.{◌≡◌, ◌⊎◌, List, ℕ, length};
-    ghost use Rattle.pocket_core.specs.Answers.{EntersWork, IsAnswer, IsNoMemory, answer};
+    ghost use Rattle.pocket_api.specs.Refusals.{IsNoMemory};
+    ghost use Rattle.pocket_core.specs.Answers.{EntersWork, IsAnswer, answer};
     ghost use Rattle.pocket_core.specs.States.{MachineState};
 
     type Work = Work;

@@ -1,8 +1,9 @@
 use Rattle.std.proofs.Common.{Err, IfOk, subst, sym}
 use Rattle.pocket_types.specs.declared.requests.Action.TheVariants as action
 use Rattle.pocket_types.specs.Within.{collections_of}
+use Rattle.pocket_api.specs.Refusals.{because}
 use Rattle.pocket_core.specs.Answers.{IsAnswer, answer_of}
-use Rattle.pocket_core.specs.declared.reply.Why.TheVariants as why
+use Rattle.pocket_api.specs.declared.why.Why.TheVariants as why
 use Rattle.pocket_core.proofs.ViewLemmas.{found_by_name, view_locked, view_open, view_without}
 use Rattle.pocket_core.proofs.views.answer_view.Goals as goal
 
@@ -15,7 +16,7 @@ pub returns-then-is_locked_for-clause-reply : goal.returns-then-is_locked_for-cl
 returns-then-is_locked_for-clause-reply g c =
     let found = rw (c.collections.ensures.collections, c.as_str.ensures) at c.in-Some.ensures in
     let locked = view_locked c.args.tables.now.world c.args.ask.now c.args.target.now c.in-Some.collection.now (sym found) (sym c.if-is_locked_for.ensures) in
-    let refused = subst (λ name. IfOk c.refuse-then-is_locked_for.result (IsAnswer (answer_of c.args.at (Err (why.Locked name action.View)))))
+    let refused = subst (λ name. IfOk c.refuse-then-is_locked_for.result (IsAnswer (answer_of c.args.at (Err (because (why.Locked name action.View))))))
     c.in_ok-name.ensures.cases c.refuse-then-is_locked_for.ensures in
     subst (λ o. IfOk c.refuse-then-is_locked_for.result (IsAnswer (answer_of c.args.at o))) (sym locked) refused
 
