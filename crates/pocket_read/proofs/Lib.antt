@@ -1,0 +1,7 @@
+pub mod Orders
+pub mod Sorted
+pub mod TextLemmas
+pub mod TermLemmas
+pub mod SeenLemmas
+pub mod ReadingLemmas
+pub mod PageLemmas

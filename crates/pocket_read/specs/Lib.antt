@@ -1,0 +1,6 @@
+pub mod Answers
+pub mod Filtering
+pub mod Terms
+pub mod Sorting
+pub mod Keys
+pub mod Pages
