@@ -1,3 +1,4 @@
+pub mod ListLemmas
 pub mod OpeningLemmas
 pub mod ReadingLemmas
 pub mod ViewLemmas

@@ -9,16 +9,19 @@ use Rattle.pocket_types.specs.declared.world.World.{World}
 use Rattle.pocket_resolve.specs.Fields.{collection_named}
 use Rattle.pocket_tables.specs.Worlds.{rec_at}
 use Rattle.pocket_gate.specs.Rules.{verdict}
+use Rattle.pocket_read.specs.Pages.{keeps_out, page_of}
 use Rattle.pocket_core.specs.Answers.{IsHistoryAfter, after, answer, answer_of, call_outcome, is_full, outcome, tally_of, work_outcome}
+use Rattle.pocket_core.specs.Lists.{list_outcome, page_or_refusal}
 use Rattle.pocket_core.specs.Outcomes.{Empty, Enters, Outcome, Shows, Tally, Tree, is_entered}
 use Rattle.pocket_core.specs.States.{MachineState, sender}
-use Rattle.pocket_core.specs.Views.{admitted, keeps_out, view_outcome}
+use Rattle.pocket_core.specs.Views.{admitted, view_outcome}
 use Rattle.pocket_api.specs.declared.reply.Reply.{Reply}
 use Rattle.pocket_api.specs.Asks.{bare_ask}
 use Rattle.pocket_api.specs.Refusals.{Refusal, because}
 use Rattle.pocket_api.specs.declared.why.Why.TheVariants as why
 use Rattle.pocket_api.specs.declared.call.Call.{Call}
 use Rattle.pocket_api.specs.declared.call.Call.TheVariants as call
+use Rattle.pocket_api.specs.declared.call.ListQuery.{ListQuery}
 use Rattle.pocket_api.specs.declared.call.Target.{Target}
 use Rattle.pocket_api.specs.declared.work.Work.{Work}
 
@@ -41,6 +44,12 @@ view_reads w ask target =
     step_reads (or_refuse (rec_at w c.name target.id) (because why.NoRecord)) _
     (λ r. step_reads (admitted (verdict w ask action.View c r)) _ (λ _. refl))))
 
+list_reads : (w : World) (ask : Ask) (name : List ℕ) (query : ListQuery) → IsReading (list_outcome w ask name query)
+unfolding list_outcome
+list_reads w ask name query =
+    step_reads (or_refuse (collection_named (collections_of w) name) (because why.NoCollection)) _
+    (λ c. step_reads (page_or_refusal (page_of w ask c query)) _ (λ _. refl))
+
 call_reads : (w : World) (ask : Ask) (c : Call) → IsReading (call_outcome w ask c)
 call_reads w ask call.NoRoute = tt
 call_reads w ask call.Collections = tt
@@ -48,7 +57,7 @@ call_reads w ask (call.CollectionNew body) = tt
 call_reads w ask (call.CollectionGet place) = tt
 call_reads w ask (call.CollectionSet place body) = tt
 call_reads w ask (call.CollectionDrop place) = tt
-call_reads w ask (call.List collection query) = tt
+call_reads w ask (call.List name query) = list_reads w ask name query
 call_reads w ask (call.View target shown) = view_reads w ask target
 call_reads w ask (call.Create collection body shown) = tt
 call_reads w ask (call.Update target body shown) = tt

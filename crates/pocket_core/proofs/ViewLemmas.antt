@@ -22,7 +22,8 @@ use Rattle.pocket_tables.proofs.KeyLemmas.{key_false}
 use Rattle.pocket_gate.proofs.Tests.{found_bears_name}
 use Rattle.pocket_api.specs.Refusals.{because}
 use Rattle.pocket_core.specs.Outcomes.{Outcome}
-use Rattle.pocket_core.specs.Views.{keeps_out, rec_named_outcome, view_outcome}
+use Rattle.pocket_read.specs.Pages.{keeps_out}
+use Rattle.pocket_core.specs.Views.{rec_named_outcome, view_outcome}
 use Rattle.pocket_api.specs.declared.why.Why.TheVariants as why
 use Rattle.pocket_api.specs.declared.call.Target.{Target}
 

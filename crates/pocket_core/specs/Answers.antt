@@ -7,6 +7,7 @@ use Rattle.pocket_types.specs.declared.requests.Ask.{Ask}
 use Rattle.pocket_types.specs.declared.world.World.{World}
 use Rattle.pocket_api.specs.Asks.{bare_ask}
 use Rattle.pocket_api.specs.Refusals.{because, refusal_jv}
+use Rattle.pocket_core.specs.Lists.{list_outcome}
 use Rattle.pocket_core.specs.Outcomes.{Body, Empty, Enters, Outcome, Shows, Tally, Tree, is_entered, state_after}
 use Rattle.pocket_core.specs.States.{MachineState, sender}
 use Rattle.pocket_core.specs.Views.{view_outcome}
@@ -23,6 +24,7 @@ use Rattle.pocket_api.specs.declared.work.Work.{Work}
 
 -- the outcome of each call; one that isn't built yet has no route
 abbrev pub call_outcome : World → Ask → Call → Outcome
+call_outcome w ask (call.List name query) = list_outcome w ask name query
 call_outcome w ask (call.View target shown) = view_outcome w ask target
 call_outcome w ask _ = Err (because why.NoRoute)
 

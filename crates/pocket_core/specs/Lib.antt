@@ -2,6 +2,7 @@ pub mod Answers
 pub mod Clients
 pub mod Faults
 pub mod Kept
+pub mod Lists
 pub mod Opening
 pub mod Outcomes
 pub mod States

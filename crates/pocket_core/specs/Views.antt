@@ -1,14 +1,11 @@
 -- A view of one record.
-use Rattle.std.specs.Prelude.{ℕ, Bool, true, false, not, ◌&&◌, List, Result, Ok, Err}
+use Rattle.std.specs.Prelude.{ℕ, List, Result, Ok, Err}
 use Rattle.pocket_types.specs.Chains.{◌>>=◌, or_refuse, refuse}
 use Rattle.pocket_types.specs.Within.{collections_of}
 use Rattle.pocket_types.specs.declared.records.Collection.{Collection}
 use Rattle.pocket_types.specs.declared.records.Rec.{Rec}
-use Rattle.pocket_types.specs.declared.records.Rule.{Rule}
-use Rattle.pocket_types.specs.declared.records.Rule.TheVariants as rule
 use Rattle.pocket_types.specs.declared.requests.Action.TheVariants as action
 use Rattle.pocket_types.specs.declared.requests.Ask.{Ask}
-use Rattle.pocket_types.specs.declared.requests.Caller.{Caller}
 use Rattle.pocket_types.specs.declared.world.World.{World}
 use Rattle.pocket_ops.specs.Trees.{rec_jv}
 use Rattle.pocket_resolve.specs.Fields.{collection_named}
@@ -16,18 +13,11 @@ use Rattle.pocket_tables.specs.Worlds.{rec_at}
 use Rattle.pocket_gate.specs.Rules.{is_admin, verdict}
 use Rattle.pocket_gate.specs.declared.verdict.Verdict.{Verdict}
 use Rattle.pocket_gate.specs.declared.verdict.Verdict.TheVariants as verdict_is
+use Rattle.pocket_read.specs.Pages.{keeps_out}
 use Rattle.pocket_core.specs.Outcomes.{Outcome, Shows, Tree}
 use Rattle.pocket_api.specs.Refusals.{Refusal, because}
 use Rattle.pocket_api.specs.declared.why.Why.TheVariants as why
 use Rattle.pocket_api.specs.declared.call.Target.{Target}
-
-abbrev pub is_locked : Rule → Bool
-is_locked rule.Locked = true
-is_locked _ = false
-
--- whether a rule keeps the caller out, whatever the record
-abbrev pub keeps_out : Caller → Rule → Bool
-keeps_out who r = not (is_admin who) && is_locked r
 
 -- a verdict that keeps the caller out is a refusal
 abbrev pub admitted : Verdict → Result (Unit {0}) Refusal

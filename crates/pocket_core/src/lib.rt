@@ -1,11 +1,13 @@
 //! The machine: a state is opened from kept rows, and answers one request at a time.
 //!
 //! `specs/Answers.antt` is the abstract machine: what each call comes to, the state after a history, and the answer to a work. It
-//! stands on `specs/States.antt` (what a state is, and who sends a work) and `specs/Views.antt` (a view by rule).
+//! stands on `specs/States.antt` (what a state is, and who sends a work), `specs/Views.antt` (a view by rule) and `specs/Lists.antt` (the page
+//! of a list).
 #![tactic(auto)]
 
 mod callers;
 pub mod laws;
+mod lists;
 mod opening;
 mod refusals;
 mod state;

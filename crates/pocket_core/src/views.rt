@@ -11,8 +11,10 @@ ghost use Rattle.pocket_gate.specs.Built.{rules_of};
 ghost use Rattle.pocket_gate.specs.Rules.{is_admin};
 ghost use Rattle.pocket_core.specs.Answers.{IsAnswer, answer_of, call_outcome};
 ghost use Rattle.pocket_core.specs.Outcomes.{Shows, Tree};
-ghost use Rattle.pocket_core.specs.Views.{keeps_out, rec_named_outcome, rec_outcome, view_outcome};
+ghost use Rattle.pocket_core.specs.Views.{rec_named_outcome, rec_outcome, view_outcome};
+ghost use Rattle.pocket_read.specs.Pages.{keeps_out};
 
+use crate::lists::answer_list;
 use crate::refusals::refuse;
 use pocket_api::{Call, Reply, Target, Why};
 use pocket_gate::{Rules, Verdict};
@@ -22,7 +24,7 @@ use pocket_types::{Action, Ask, Caller, Collection, Id, Jv, Name, Rec, Rule, Ste
 use std::alloc::{AllocError, Global};
 use std::sync::ledger::Ledger;
 
-fn is_admin_caller(caller: &Caller) -> bool
+pub(crate) fn is_admin_caller(caller: &Caller) -> bool
     ensures { result ≡ is_admin caller.now }
 {
     matches!(caller, Caller::Admin)
@@ -35,7 +37,10 @@ fn is_locked_for(caller: &Caller, rule: &Rule) -> bool
 }
 
 /// The collection of this name.
-fn find_collection<'a>(collections: &'a [Collection], name: &str) -> Option<&'a Collection>
+pub(crate) fn find_collection<'a>(
+    collections: &'a [Collection],
+    name: &str,
+) -> Option<&'a Collection>
     ensures { option_copied result ≡ collection_named collections.now name.now }
 {
     collections
@@ -61,7 +66,7 @@ fn find_rec<'a, L: Ledger>(
 }
 
 /// The compact text of a tree.
-fn text_of(alloc: Global, tree: Jv) -> Result<Text, AllocError>
+pub(crate) fn text_of(alloc: Global, tree: Jv) -> Result<Text, AllocError>
     ensures { IfOk result (λ text. text ≡ printed tree) }
 {
     let text = tree.print(alloc);
@@ -172,6 +177,9 @@ pub(crate) fn answer_call<L: Ledger>(
     ensures steps { steps.old ≤ steps.new }
 {
     match call {
+        Call::List { collection, query } => answer_list(
+            alloc, tables, rules, ask, collection, query, at, steps,
+        ),
         Call::View { target, shown: _ } => answer_view(
             alloc, tables, rules, ask, target, at, steps,
         ),
