@@ -80,9 +80,13 @@ rec_members hidden c r = put_cells hidden c.fields r.cells (date_members r)
 abbrev pub kept_jv : Collection → Rec → Jv
 kept_jv c r = map_jv (rec_members true c r)
 
+-- the members of a record as it is shown: its id and its collection's name, its dates, and its cells
+abbrev pub shown_members : Bool → Collection → Rec → List (List ℕ × Jv)
+shown_members hidden c r = put (codes "id") (text_jv r.id) (put (codes "collectionName") (text_jv c.name) (rec_members hidden c r))
+
 -- a record as it is shown, with its hidden fields or without them
 abbrev pub rec_jv : Collection → Rec → Bool → Jv
-rec_jv c r hidden = map_jv (put (codes "id") (text_jv r.id) (put (codes "collectionName") (text_jv c.name) (rec_members hidden c r)))
+rec_jv c r hidden = map_jv (shown_members hidden c r)
 
 -- ---- collections
 

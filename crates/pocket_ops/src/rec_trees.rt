@@ -1,7 +1,7 @@
 // The JSON of records.
 ghost use Rattle.std.specs.Prelude.{◌≡◌, ◌&&◌, not, IfOk, if◌then◌else◌};
 ghost use Rattle.pocket_types.specs.Maps.{put};
-ghost use Rattle.pocket_ops.specs.Trees.{put_cells, cell_jv, rec_members, kept_jv, rec_jv};
+ghost use Rattle.pocket_ops.specs.Trees.{put_cells, cell_jv, rec_members, shown_members, kept_jv, rec_jv};
 
 use crate::cell_trees::cell_jv;
 use crate::trees::{map_jv, moment_jv, text_jv};
@@ -11,7 +11,7 @@ use std::collections::BTreeMap;
 
 /// Puts a member among those there; of equal keys the later value counts.
 #[tactic(auto, unfolding(pocket_types::specs::Maps::put))]
-fn put(
+pub fn put_member(
     members: &mut BTreeMap<Text, Jv>,
     alloc: Global,
     key: &str,
@@ -40,7 +40,7 @@ fn put_cell(
         return Ok(());
     }
     let value = cell_jv(alloc, &field.kind, cell)?;
-    put(members, alloc, field.name.as_str(), value)
+    put_member(members, alloc, field.name.as_str(), value)
 }
 
 fn put_cells(
@@ -71,9 +71,9 @@ fn rec_members(
 {
     let mut members = BTreeMap::new(alloc);
     let created = moment_jv(alloc, &rec.created)?;
-    put(&mut members, alloc, "created", created)?;
+    put_member(&mut members, alloc, "created", created)?;
     let updated = moment_jv(alloc, &rec.updated)?;
-    put(&mut members, alloc, "updated", updated)?;
+    put_member(&mut members, alloc, "updated", updated)?;
     let fields = collection.fields.as_slice();
     put_cells(&mut members, alloc, fields, rec.cells.as_slice(), hidden)?;
     Ok(members)
@@ -86,6 +86,23 @@ pub fn kept_jv(alloc: Global, collection: &Collection, rec: &Rec) -> Result<Jv, 
     map_jv(alloc, rec_members(alloc, collection, rec, true)?)
 }
 
+/// The members of a record as it is shown, by key: with its hidden fields for the administrator, else without them.
+pub fn shown_members(
+    alloc: Global,
+    collection: &Collection,
+    rec: &Rec,
+    hidden: bool,
+) -> Result<BTreeMap<Text, Jv>, AllocError>
+    ensures { IfOk result (λ members. members.entries ≡ shown_members hidden collection.now rec.now) }
+{
+    let mut members = rec_members(alloc, collection, rec, hidden)?;
+    let name = text_jv(alloc, collection.name.as_str())?;
+    put_member(&mut members, alloc, "collectionName", name)?;
+    let id = text_jv(alloc, rec.id.as_str())?;
+    put_member(&mut members, alloc, "id", id)?;
+    Ok(members)
+}
+
 /// The JSON of a record as it is shown: with its hidden fields for the administrator, else without them.
 pub fn rec_jv(
     alloc: Global,
@@ -95,10 +112,5 @@ pub fn rec_jv(
 ) -> Result<Jv, AllocError>
     ensures { IfOk result (λ tree. tree ≡ rec_jv collection.now rec.now hidden) }
 {
-    let mut members = rec_members(alloc, collection, rec, hidden)?;
-    let name = text_jv(alloc, collection.name.as_str())?;
-    put(&mut members, alloc, "collectionName", name)?;
-    let id = text_jv(alloc, rec.id.as_str())?;
-    put(&mut members, alloc, "id", id)?;
-    map_jv(alloc, members)
+    map_jv(alloc, shown_members(alloc, collection, rec, hidden)?)
 }

@@ -64,6 +64,7 @@ pub fn push_made(trees: &mut Seq<Jv>, tree: Result<Jv, AllocError>) -> Result<()
     }
 }
 
+/// Adds a member to those of a map.
 pub fn push_member(
     members: &mut Vec<Member>,
     alloc: Global,

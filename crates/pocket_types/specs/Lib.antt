@@ -1,8 +1,10 @@
+pub mod Callers
 pub mod Causes
 pub mod Chains
 pub mod Inductions
 pub mod Json
 pub mod Kinds
+pub mod Lists
 pub mod Maps
 pub mod Names
 pub mod Order

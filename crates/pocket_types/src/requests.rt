@@ -1,3 +1,6 @@
+ghost use Rattle.std.specs.Prelude.{◌≡◌};
+ghost use Rattle.pocket_types.specs.Callers.{is_admin};
+
 use crate::ids::Id;
 use crate::moments::Moment;
 use crate::names::Name;
@@ -14,6 +17,15 @@ pub enum Caller {
     Member(Name, Id),
     /// The administrator, to whom rules aren't applied.
     Admin,
+}
+
+impl Caller {
+    /// Whether it is the administrator, to whom rules aren't applied.
+    pub fn is_admin(&self) -> bool
+        ensures { result ≡ is_admin self.now }
+    {
+        matches!(self, Caller::Admin)
+    }
 }
 
 /// The methods that requests may have.
