@@ -5,6 +5,7 @@ use Rattle.std.specs.List.{AllByRecursion}
 use Rattle.std.specs.Option.{option_map_or}
 use Rattle.std.specs.Str.{bytes_eq}
 use Rattle.std.proofs.lemmas.List.Elements.{recursion_from_All}
+use Rattle.pocket_types.specs.Callers.{is_admin}
 use Rattle.pocket_types.specs.Within.{collections_of}
 use Rattle.pocket_types.specs.World.{shelf_named}
 use Rattle.pocket_types.specs.declared.names.Name.{Name}
@@ -21,7 +22,7 @@ use Rattle.pocket_tables.specs.Worlds.{IsTabled, shelf_name}
 use Rattle.pocket_plan.specs.Cutting.{admits, admitted_shelf, guarded_world, open_world, passes, view_named}
 use Rattle.pocket_plan.specs.Truth.{open_home, plan_truth}
 use Rattle.pocket_gate.specs.Built.{guard_for, guard_of, rules_of, test_of, view_for, views_for}
-use Rattle.pocket_gate.specs.Rules.{is_admin, is_allowed, may}
+use Rattle.pocket_gate.specs.Rules.{is_allowed, may}
 use Rattle.pocket_gate.specs.Seen.{seen_home, seen_world, viewable_shelf, viewable_world}
 use Rattle.pocket_gate.specs.declared.rules.Rules.{Rules}
 use Rattle.pocket_gate.proofs.Tests.{find-map, passes-allowed, test_verdict-test_of, verdict-rule_verdict, view_named-views_for}

@@ -3,6 +3,7 @@ use Rattle.std.proofs.Common.{◌≡◌, ℕ, Bool, true, false, cond, List, [],
 use Rattle.std.specs.Prelude.{IfSome, find, option_map}
 use Rattle.std.specs.Str.{bytes_eq}
 use Rattle.std.proofs.lemmas.Slice.Eq.{bytes_eq-Decides}
+use Rattle.pocket_types.specs.Callers.{is_admin}
 use Rattle.pocket_types.specs.Within.{collections_of}
 use Rattle.pocket_types.specs.declared.names.Name.{Name}
 use Rattle.pocket_types.specs.declared.records.Collection.{Collection}
@@ -20,7 +21,7 @@ use Rattle.pocket_plan.specs.Cutting.{passes, view_named}
 use Rattle.pocket_plan.specs.declared.guard.ViewTest.{ViewTest}
 use Rattle.pocket_plan.specs.declared.guard.ViewTest.TheVariants as test
 use Rattle.pocket_gate.specs.Built.{filter_test, guard_of, rules_of, test_of, test_verdict, view_for, views_for, views_in}
-use Rattle.pocket_gate.specs.Rules.{filter_verdict, is_admin, is_allowed, rule_filter, rule_for, rule_verdict, verdict}
+use Rattle.pocket_gate.specs.Rules.{filter_verdict, is_allowed, rule_filter, rule_for, rule_verdict, verdict}
 use Rattle.pocket_gate.specs.declared.verdict.Verdict.{Verdict}
 use Rattle.pocket_gate.specs.declared.verdict.Verdict.TheVariants as verdict_is
 

@@ -1,5 +1,6 @@
 -- What is built from collections: their rules, and the guard by their view rules.
 use Rattle.std.specs.Prelude.{List, Option, Some, None, map, if◌then◌else◌}
+use Rattle.pocket_types.specs.Callers.{is_admin}
 use Rattle.pocket_types.specs.declared.names.Name.{Name}
 use Rattle.pocket_types.specs.declared.records.Collection.{Collection}
 use Rattle.pocket_types.specs.declared.records.Rec.{Rec}
@@ -15,7 +16,7 @@ use Rattle.pocket_plan.specs.declared.guard.Guard.{Guard}
 use Rattle.pocket_plan.specs.declared.guard.View.{View}
 use Rattle.pocket_plan.specs.declared.guard.ViewTest.{ViewTest}
 use Rattle.pocket_plan.specs.declared.guard.ViewTest.TheVariants as test
-use Rattle.pocket_gate.specs.Rules.{filter_verdict, is_admin, rule_filter, rule_for}
+use Rattle.pocket_gate.specs.Rules.{filter_verdict, rule_filter, rule_for}
 use Rattle.pocket_gate.specs.declared.rules.Rules.{Rules}
 use Rattle.pocket_gate.specs.declared.verdict.Verdict.{Verdict}
 use Rattle.pocket_gate.specs.declared.verdict.Verdict.TheVariants as verdict_is

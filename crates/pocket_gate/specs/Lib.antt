@@ -1,3 +1,4 @@
 pub mod Rules
 pub mod Seen
 pub mod Built
+pub mod Shown

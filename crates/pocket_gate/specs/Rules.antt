@@ -1,6 +1,7 @@
 -- What a rule says of a record.
-use Rattle.std.specs.Prelude.{ℕ, Bool, true, false, List, Option, Some, None, option_and_then, if◌then◌else◌}
+use Rattle.std.specs.Prelude.{ℕ, Bool, true, false, not, ◌&&◌, List, Option, Some, None, option_and_then, if◌then◌else◌}
 use Rattle.std.specs.Result.{result_ok}
+use Rattle.pocket_types.specs.Callers.{is_admin}
 use Rattle.pocket_types.specs.Within.{collections_of}
 use Rattle.pocket_types.specs.declared.names.Name.{Name}
 use Rattle.pocket_types.specs.declared.records.Collection.{Collection}
@@ -11,7 +12,6 @@ use Rattle.pocket_types.specs.declared.requests.Action.{Action}
 use Rattle.pocket_types.specs.declared.requests.Action.TheVariants as action
 use Rattle.pocket_types.specs.declared.requests.Ask.{Ask}
 use Rattle.pocket_types.specs.declared.requests.Caller.{Caller}
-use Rattle.pocket_types.specs.declared.requests.Caller.TheVariants as caller
 use Rattle.pocket_types.specs.declared.resolved.Resolved.{Resolved}
 use Rattle.pocket_types.specs.declared.world.World.{World}
 use Rattle.pocket_filter.specs.Parsed.{parsed}
@@ -21,11 +21,6 @@ use Rattle.pocket_meaning.specs.Meaning.{holds}
 use Rattle.pocket_gate.specs.declared.verdict.Verdict.{Verdict}
 use Rattle.pocket_gate.specs.declared.verdict.Verdict.TheVariants as verdict_is
 
--- rules aren't applied to the administrator
-abbrev pub is_admin : Caller → Bool
-is_admin caller.Admin = true
-is_admin _ = false
-
 -- the rule of a collection for an action
 abbrev pub rule_for : Action → Collection → Rule
 rule_for action.List c = c.list_rule
@@ -33,6 +28,14 @@ rule_for action.View c = c.view_rule
 rule_for action.Create c = c.create_rule
 rule_for action.Update c = c.update_rule
 rule_for action.Delete c = c.delete_rule
+
+abbrev pub is_locked : Rule → Bool
+is_locked rule.Locked = true
+is_locked _ = false
+
+-- whether a rule keeps a caller out, whatever the record
+abbrev pub keeps_out : Caller → Rule → Bool
+keeps_out who r = not (is_admin who) && is_locked r
 
 -- the filter of a rule's text, for the collection of this name among others: it parses and resolves
 unfoldable pub rule_filter : List Collection → Name → List ℕ → Option Resolved

@@ -1,5 +1,6 @@
 -- The world that a caller sees.
 use Rattle.std.specs.Prelude.{map, filter, if◌then◌else◌}
+use Rattle.pocket_types.specs.Callers.{is_admin}
 use Rattle.pocket_types.specs.declared.requests.Action.TheVariants as action
 use Rattle.pocket_types.specs.declared.requests.Ask.{Ask}
 use Rattle.pocket_types.specs.declared.names.Name.{Name}
@@ -8,7 +9,7 @@ use Rattle.pocket_types.specs.declared.world.Shelf.{Shelf}
 use Rattle.pocket_types.specs.declared.world.World.{World}
 use Rattle.pocket_plan.specs.Cutting.{open_world}
 use Rattle.pocket_plan.specs.Truth.{open_home}
-use Rattle.pocket_gate.specs.Rules.{is_admin, may}
+use Rattle.pocket_gate.specs.Rules.{may}
 
 -- a shelf with the records that the view rule admits
 abbrev pub viewable_shelf : World → Ask → Shelf → Shelf

@@ -1,5 +1,6 @@
 ghost use Rattle.std.specs.Prelude.{◌≡◌, ◌↔◌, ◌≤◌, List, option_map, IfOk, IfSome, IsNone, IsSome};
 ghost use Rattle.std.specs.Option.{option_copied};
+ghost use Rattle.pocket_types.specs.Callers.{is_admin};
 ghost use Rattle.pocket_types.specs.Within.{collections_of};
 ghost use Rattle.pocket_types.specs.declared.records.Collection.{Collection};
 ghost use Rattle.pocket_types.specs.declared.requests.Caller.TheVariants as caller;
@@ -8,7 +9,7 @@ ghost use Rattle.pocket_resolve.specs.Fields.{collection_named};
 ghost use Rattle.pocket_tables.specs.Worlds.{IsTabled};
 ghost use Rattle.pocket_plan.specs.Cutting.{guarded_world, view_named};
 ghost use Rattle.pocket_gate.specs.Built.{test_verdict};
-ghost use Rattle.pocket_gate.specs.Rules.{is_admin, verdict};
+ghost use Rattle.pocket_gate.specs.Rules.{keeps_out, verdict};
 ghost use Rattle.pocket_gate.specs.Seen.{seen_world};
 ghost use Rattle.pocket_gate.specs.declared.verdict.Verdict.TheVariants.{Allowed};
 
@@ -17,7 +18,7 @@ use crate::laws::guards_show_what_is_seen;
 use crate::verdict::Verdict;
 use pocket_plan::{Guard, View, ViewTest};
 use pocket_tables::Tables;
-use pocket_types::{Action, Ask, Caller, Collection, Name, Rec, Seq, Steps};
+use pocket_types::{Action, Ask, Caller, Collection, Name, Rec, Rule, Seq, Steps};
 use std::alloc::{AllocError, Global};
 use std::sync::ledger::Ledger;
 
@@ -32,10 +33,11 @@ pub struct Rules {
     delete: Seq<View>,
 }
 
-fn is_admin_caller(caller: &Caller) -> bool
-    ensures { result ≡ is_admin caller.now }
+/// Whether a rule keeps a caller out, whatever the record: it is locked, and the caller isn't the administrator.
+pub fn is_locked_for(caller: &Caller, rule: &Rule) -> bool
+    ensures { result ≡ keeps_out caller.now rule.now }
 {
-    matches!(caller, Caller::Admin)
+    !caller.is_admin() && matches!(rule, Rule::Locked)
 }
 
 /// Whom the rule of a collection lets through.
@@ -130,7 +132,7 @@ impl Rules {
         ensures admin { ask.now.caller ≡ caller.Admin → result ≡ Ok Allowed }
         ensures steps { steps.old ≤ steps.new }
     {
-        if is_admin_caller(&ask.caller) {
+        if ask.caller.is_admin() {
             return Ok(Verdict::Allowed);
         }
         match test_named(self.views(action), collection) {
@@ -149,7 +151,7 @@ impl Rules {
             → IfSome result (λ g. guarded_world w g.now ask.now ≡ seen_world w ask.now) }
     {
         guards_show_what_is_seen();
-        let sees_all = is_admin_caller(&ask.caller);
-        if sees_all { None } else { Some(&self.guard) }
+        let whole = ask.caller.is_admin();
+        if whole { None } else { Some(&self.guard) }
     }
 }

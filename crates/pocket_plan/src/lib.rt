@@ -13,4 +13,5 @@ mod open_fields;
 mod plan;
 
 pub use guard::{Guard, View, ViewTest};
+pub use open_fields::{does_point_openly, open_field_of};
 pub use plan::{Plan, compile};

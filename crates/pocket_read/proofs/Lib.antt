@@ -3,5 +3,4 @@ pub mod Sorted
 pub mod TextLemmas
 pub mod TermLemmas
 pub mod SeenLemmas
-pub mod ReadingLemmas
 pub mod PageLemmas

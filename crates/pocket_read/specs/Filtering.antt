@@ -1,5 +1,6 @@
 -- The filter of a client.
 use Rattle.std.specs.Prelude.{ℕ, Bool, true, List, Option, Some, None, Result, Ok}
+use Rattle.pocket_types.specs.Callers.{is_admin}
 use Rattle.pocket_types.specs.Chains.{◌>>=◌}
 use Rattle.pocket_types.specs.declared.names.Name.{Name}
 use Rattle.pocket_types.specs.declared.records.Collection.{Collection}
@@ -13,7 +14,6 @@ use Rattle.pocket_resolve.specs.Filters.{resolution}
 use Rattle.pocket_resolve.specs.declared.purpose.Purpose.{Purpose}
 use Rattle.pocket_resolve.specs.declared.purpose.Purpose.TheVariants.{ClientOf}
 use Rattle.pocket_meaning.specs.Meaning.{holds}
-use Rattle.pocket_gate.specs.Rules.{is_admin}
 use Rattle.pocket_gate.specs.Seen.{seen_home, seen_world}
 use Rattle.pocket_read.specs.Answers.{refuse_as}
 use Rattle.pocket_read.specs.declared.faults.ReadFault.{ReadFault}

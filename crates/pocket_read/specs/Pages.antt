@@ -1,21 +1,18 @@
 -- The page of a list.
-use Rattle.std.specs.Prelude.{ℕ, ◌-◌, ◌*◌, ◌==◌, min, max, not, ◌&&◌, Bool, true, false, List, drop, filter, length, take, Option, Some, None, Result, Ok, if◌then◌else◌}
+use Rattle.std.specs.Prelude.{ℕ, ◌-◌, ◌*◌, ◌==◌, min, max, ◌&&◌, Bool, List, drop, filter, length, take, Option, Some, None, Result, Ok, if◌then◌else◌}
 use Rattle.pocket_types.specs.Chains.{◌>>=◌, refuse}
 use Rattle.pocket_types.specs.Within.{collections_of}
 use Rattle.pocket_types.specs.declared.ids.Id.{Id}
 use Rattle.pocket_types.specs.declared.records.Collection.{Collection}
 use Rattle.pocket_types.specs.declared.records.Rec.{Rec}
-use Rattle.pocket_types.specs.declared.records.Rule.{Rule}
-use Rattle.pocket_types.specs.declared.records.Rule.TheVariants as rule
 use Rattle.pocket_types.specs.declared.requests.Action.TheVariants as action
 use Rattle.pocket_types.specs.declared.requests.Ask.{Ask}
-use Rattle.pocket_types.specs.declared.requests.Caller.{Caller}
 use Rattle.pocket_types.specs.declared.resolved.Resolved.{Resolved}
 use Rattle.pocket_types.specs.declared.world.World.{World}
 use Rattle.pocket_api.specs.declared.call.ListQuery.{ListQuery}
 use Rattle.pocket_tables.specs.Worlds.{recs_at}
 use Rattle.pocket_resolve.specs.declared.purpose.Purpose.{Purpose}
-use Rattle.pocket_gate.specs.Rules.{is_admin, may}
+use Rattle.pocket_gate.specs.Rules.{keeps_out, may}
 use Rattle.pocket_gate.specs.declared.verdict.Verdict.TheVariants.{Locked}
 use Rattle.pocket_read.specs.Filtering.{client_filter, client_of, passes}
 use Rattle.pocket_read.specs.Sorting.{sorted_ids}
@@ -82,14 +79,6 @@ abbrev pub unlocked_page : World → Ask → Collection → ListQuery → Result
 unlocked_page w ask c query = do
   search ← search_of (collections_of w) (client_of ask.caller c.name) query
   Ok (searched w ask c query search)
-
-abbrev pub is_locked : Rule → Bool
-is_locked rule.Locked = true
-is_locked _ = false
-
--- whether a rule keeps the caller out, whatever the record
-abbrev pub keeps_out : Caller → Rule → Bool
-keeps_out who r = not (is_admin who) && is_locked r
 
 -- the page of a list: the locked rule is refused first, then what is wrong with the query
 unfoldable pub page_of : World → Ask → Collection → ListQuery → Result Page ReadFault

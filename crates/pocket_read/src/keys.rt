@@ -1,8 +1,7 @@
 // The values that records are sorted by, made of what their caller sees: records are judged as they are met.
-ghost use Rattle.std.specs.Prelude.{◌≡◌, ◌≤◌, ◌&&◌, IfOk, find, map, option_map, zip, Some, None, if◌then◌else◌};
-ghost use Rattle.std.specs.Str.{bytes_eq};
+ghost use Rattle.std.specs.Prelude.{◌≡◌, ◌≤◌, IfOk, map, Some};
+ghost use Rattle.pocket_types.specs.Callers.{is_admin};
 ghost use Rattle.pocket_types.specs.Within.{collections_of};
-ghost use Rattle.pocket_types.specs.declared.requests.Action.TheVariants as action;
 ghost use Rattle.pocket_types.specs.declared.resolved.Modifier.TheVariants.{Plain};
 ghost use Rattle.pocket_types.specs.declared.resolved.Step.TheVariants as step;
 ghost use Rattle.pocket_resolve.specs.Fields as fields;
@@ -10,21 +9,19 @@ ghost use Rattle.pocket_meaning.specs.Members as member;
 ghost use Rattle.pocket_meaning.specs.Related.{held};
 ghost use Rattle.pocket_meaning.specs.Seen.{seen};
 ghost use Rattle.pocket_meaning.specs.Values.{member_value};
-ghost use Rattle.pocket_plan.specs.Cutting.{is_open};
-ghost use Rattle.pocket_plan.specs.Guarding.{open_field_at};
 ghost use Rattle.pocket_gate.specs.Built.{rules_of};
-ghost use Rattle.pocket_gate.specs.Rules.{is_admin, may};
 ghost use Rattle.pocket_gate.specs.Seen.{seen_world};
-ghost use Rattle.pocket_read.specs.Keys.{field_shown, first_member, member_at, shown};
+ghost use Rattle.pocket_gate.specs.Shown.{shown};
+ghost use Rattle.pocket_read.specs.Keys.{first_member};
 ghost use Rattle.pocket_read.specs.Sorting.{end_of, next_on};
 ghost use Rattle.pocket_read.specs.Sorting as sorting;
 
-use crate::terms::{SortTerm, collection_named};
-use pocket_gate::{Rules, Verdict};
-use pocket_meaning::{Member, field_of, ids_in, value_of_field};
+use crate::terms::SortTerm;
+use pocket_gate::{Rules, field_seen, record_seen};
+use pocket_meaning::{Member, ids_in, value_of_field};
 use pocket_tables::Tables;
 use pocket_types::{
-    Action, Ask, Caller, Cell, Collection, Field, Id, Modifier, Name, Rec, Seq, Step, Steps, Value,
+    Ask, Cell, Collection, Field, Id, Modifier, Name, Rec, Seq, Step, Steps, Value,
 };
 use std::alloc::{AllocError, Global};
 use std::sync::ledger::Ledger;
@@ -34,118 +31,6 @@ use std::sync::ledger::Ledger;
 pub struct SortKey {
     pub values: Seq<Value>,
     pub id: Id,
-}
-
-/// Whether the caller is the administrator, who sees records whole.
-pub fn sees_all(caller: &Caller) -> bool
-    ensures { result ≡ is_admin caller.now }
-{
-    matches!(caller, Caller::Admin)
-}
-
-/// The first field of a name that isn't hidden, with its cell.
-fn open_field_among<'a>(
-    fields: &'a [Field],
-    cells: &'a [Cell],
-    name: &Name,
-) -> Option<(&'a Field, &'a Cell)>
-    ensures { option_map (λ x. (x.0.now, x.1.now)) result ≡ find (λ x. is_open x.0 && bytes_eq x.0.name name.now) (zip fields.now cells.now) }
-{
-    match fields {
-        [] => None,
-        [field, fields @ ..] => match cells {
-            [] => None,
-            [cell, cells @ ..] => {
-                if !field.hidden && field.name == *name {
-                    Some((field, cell))
-                } else {
-                    open_field_among(fields, cells, name)
-                }
-            }
-        },
-    }
-}
-
-/// The field of a record that isn't hidden, with its cell.
-fn open_field_of<'a>(
-    collection: &'a Collection,
-    rec: &'a Rec,
-    name: &Name,
-) -> Option<(&'a Field, &'a Cell)>
-    ensures { option_map (λ x. (x.0.now, x.1.now)) result ≡ open_field_at collection.now rec.now name.now }
-{
-    open_field_among(collection.fields.as_slice(), rec.cells.as_slice(), name)
-}
-
-/// A field of a record that isn't hidden, unless the record is seen whole.
-fn field_seen<'a>(
-    whole: bool,
-    collection: &'a Collection,
-    rec: &'a Rec,
-    name: &Name,
-) -> Option<(&'a Field, &'a Cell)>
-    ensures { option_map (λ x. (x.0.now, x.1.now)) result ≡ field_shown whole collection.now rec.now name.now }
-{
-    if whole {
-        field_of(collection, rec, name)
-    } else {
-        open_field_of(collection, rec, name)
-    }
-}
-
-/// A record of a collection, where the caller may view it.
-fn if_viewable<'a, L: Ledger>(
-    alloc: Global,
-    tables: &Tables,
-    rules: &Rules,
-    ask: &Ask,
-    collection: &'a Collection,
-    rec: &'a Rec,
-    steps: &mut Steps<L>,
-) -> Result<Option<Member<'a>>, AllocError>
-    requires rules { rules.now ≡ rules_of (collections_of tables.now.world) }
-    requires there { fields.collection_named (collections_of tables.now.world) collection.now.name ≡ Some collection.now }
-    ensures member { IfOk result (λ found. option_map seen found ≡ (if may tables.now.world ask.now action.View collection.now rec.now then Some (member.Record collection.now rec.now) else None)) }
-    ensures steps { steps.old ≤ steps.new }
-{
-    match rules.may(
-        alloc,
-        tables,
-        ask,
-        Action::View,
-        &collection.name,
-        rec,
-        steps,
-    )? {
-        Verdict::Allowed => Ok(Some(Member::Record(collection, rec))),
-        _ => Ok(None),
-    }
-}
-
-/// The record of a collection and an id, where the caller may view it.
-#[tactic(auto, using(crate::proofs::SeenLemmas::member_found, crate::proofs::SeenLemmas::no_collection_found, crate::proofs::SeenLemmas::no_rec_found))]
-fn member_seen<'a, L: Ledger>(
-    alloc: Global,
-    tables: &'a Tables,
-    rules: &Rules,
-    ask: &Ask,
-    name: &Name,
-    id: Id,
-    steps: &mut Steps<L>,
-) -> Result<Option<Member<'a>>, AllocError>
-    requires rules { rules.now ≡ rules_of (collections_of tables.now.world) }
-    ensures member { IfOk result (λ found. option_map (λ m. shown (is_admin ask.now.caller) (seen m)) found ≡ member_at (seen_world tables.now.world ask.now) name.now id) }
-    ensures steps { steps.old ≤ steps.new }
-{
-    let found = collection_named(tables.collections(), name);
-    let rec = tables.rec(name, id, steps);
-    match found {
-        Some(collection) => match rec {
-            Some(rec) => if_viewable(alloc, tables, rules, ask, collection, rec, steps),
-            None => Ok(None),
-        },
-        None => Ok(None),
-    }
 }
 
 /// The first of these records that the caller may view.
@@ -164,7 +49,7 @@ fn first_seen<'a, L: Ledger>(
 {
     match ids {
         [] => Ok(Member::Nobody),
-        [id, rest @ ..] => match member_seen(alloc, tables, rules, ask, name, *id, steps)? {
+        [id, rest @ ..] => match record_seen(alloc, tables, rules, ask, name, *id, steps)? {
             Some(member) => Ok(member),
             None => first_seen(alloc, tables, rules, ask, name, rest, steps),
         },
@@ -208,7 +93,7 @@ fn over_relation<'a, L: Ledger>(
         ≡ next_on (seen_world tables.now.world ask.now) (step.Forward name.now) (shown (is_admin ask.now.caller) (member.Record collection.now rec.now))) }
     ensures steps { steps.old ≤ steps.new }
 {
-    match field_seen(sees_all(&ask.caller), collection, rec, name) {
+    match field_seen(ask.caller.is_admin(), collection, rec, name) {
         Some((field, cell)) => first_held(alloc, tables, rules, ask, field, cell, steps),
         None => Ok(Member::Nobody),
     }
@@ -310,7 +195,7 @@ fn sort_value<L: Ledger>(
         term.path.steps.as_slice(),
         steps,
     )?;
-    value_seen(alloc, sees_all(&ask.caller), end, &term.field)
+    value_seen(alloc, ask.caller.is_admin(), end, &term.field)
 }
 
 /// The values by which terms sort a record.

@@ -10,19 +10,19 @@ ghost use Rattle.pocket_gate.specs.Built.{rules_of};
 ghost use Rattle.pocket_gate.specs.declared.verdict.Verdict.TheVariants.{Locked};
 ghost use Rattle.pocket_read.specs.Answers.{Gives, GivesAs};
 ghost use Rattle.pocket_read.specs.Filtering as filtering;
-ghost use Rattle.pocket_read.specs.Pages.{is_wanted, keeps_out, matched, page_in, page_of, search_of, searched, unlocked_page};
+ghost use Rattle.pocket_read.specs.Pages.{is_wanted, matched, page_in, page_of, search_of, searched, unlocked_page};
 ghost use Rattle.pocket_read.specs.Sorting.{sorted_ids};
 ghost use Rattle.pocket_read.specs.Sorting as sorting;
 ghost use Rattle.pocket_read.specs.declared.faults.ReadFault.TheVariants as fault;
 
 use crate::faults::ReadFault;
 use crate::filters::{client_plan, does_pass};
-use crate::keys::{SortKey, key_of, sees_all};
+use crate::keys::{SortKey, key_of};
 use crate::order::sort_keys;
 use crate::page::{Page, page_of_keys, page_of_recs};
-use crate::terms::{SortTerm, client_terms, collection_named};
+use crate::terms::{SortTerm, client_terms};
 use pocket_api::ListQuery;
-use pocket_gate::{Rules, Verdict};
+use pocket_gate::{Rules, Verdict, collection_named, is_locked_for};
 use pocket_plan::Plan;
 use pocket_resolve::Purpose;
 use pocket_tables::Tables;
@@ -35,12 +35,6 @@ use std::sync::ledger::Ledger;
 pub struct Search {
     pub plan: Option<Plan>,
     pub terms: Vec<SortTerm>,
-}
-
-fn is_locked_for(caller: &Caller, rule: &Rule) -> bool
-    ensures { result ≡ keeps_out caller.now rule.now }
-{
-    !sees_all(caller) && matches!(rule, Rule::Locked)
 }
 
 /// The refusal of a locked list.
@@ -59,7 +53,7 @@ fn client_of(caller: &Caller, home: &Name) -> Result<Purpose, AllocError>
 {
     Ok(Purpose::ClientOf {
         home: home.clone()?,
-        admin: sees_all(caller),
+        admin: caller.is_admin(),
     })
 }
 

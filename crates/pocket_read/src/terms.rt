@@ -10,6 +10,7 @@ ghost use Rattle.pocket_read.specs.Answers.{Gives, GivesAs};
 ghost use Rattle.pocket_read.specs.Terms as terms;
 
 use crate::faults::ReadFault;
+use pocket_gate::collection_named;
 use pocket_resolve::{Purpose, resolve};
 use pocket_types::{
     Collection, Expr, Field, Leaf, Name, Op, Operand, Part, Prefix, ResolveFault, Resolved, Seq,
@@ -108,15 +109,6 @@ fn asking_of(alloc: Global, path: &str) -> Result<Expr, AllocError>
         op: Op::Eq,
         right: Operand::Null,
     })
-}
-
-/// The collection of this name.
-pub fn collection_named<'a>(collections: &'a [Collection], name: &Name) -> Option<&'a Collection>
-    ensures { option_copied result ≡ fields.collection_named collections.now name.now }
-{
-    collections
-        .iter()
-        .find(|collection| collection.name == *name)
 }
 
 fn field_named<'a>(collection: &'a Collection, name: &Name) -> Option<&'a Field>

@@ -15,6 +15,7 @@ mod resolution;
 mod sent;
 mod steps;
 
+pub use names::cut_at_via;
 pub use pocket_types::ResolveFault;
 pub use purpose::Purpose;
 pub use resolution::resolve;

@@ -15,3 +15,4 @@ pub mod FollowingLemmas
 pub mod FrontLemmas
 pub mod TallyLemmas
 pub mod BalanceLemmas
+pub mod NextLemmas

@@ -1,6 +1,7 @@
 use Rattle.std.proofs.Common.{cond, ap}
 use Rattle.pocket_plan.specs.Cutting.{open_world}
-use Rattle.pocket_gate.specs.Rules.{is_admin, rule_for, rule_verdict, verdict}
+use Rattle.pocket_types.specs.Callers.{is_admin}
+use Rattle.pocket_gate.specs.Rules.{rule_for, rule_verdict, verdict}
 use Rattle.pocket_gate.specs.Seen.{seen_world, viewable_world}
 use Rattle.pocket_gate.specs.declared.verdict.Verdict.TheVariants as verdict_is
 use Rattle.pocket_gate.proofs.laws.the_administrator_sees_all.Goals as goal

@@ -3,7 +3,7 @@ use Rattle.std.proofs.lemmas.Result.{IfOk-weaker}
 use Rattle.pocket_gate.specs.Seen.{seen_world}
 use Rattle.pocket_read.specs.Keys.{first_member}
 use Rattle.pocket_read.specs.Sorting.{first_or_nobody}
-use Rattle.pocket_read.proofs.SeenLemmas.{held_named}
+use Rattle.pocket_gate.proofs.ShownLemmas.{held_named}
 use Rattle.pocket_read.proofs.keys.first_held.Goals as goal
 
 pub returns-in-Some-clause-member : goal.returns-in-Some-clause-member

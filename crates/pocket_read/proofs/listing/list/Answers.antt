@@ -1,6 +1,6 @@
 use Rattle.std.proofs.Common.{ap, ◌∙◌}
 use Rattle.pocket_resolve.specs.Fields.{collection_named}
-use Rattle.pocket_read.proofs.SeenLemmas.{named_again}
+use Rattle.pocket_gate.proofs.ShownLemmas.{named_again}
 use Rattle.pocket_read.proofs.listing.list.Goals as goal
 
 pub list_of-requires-clause-there : goal.list_of-requires-clause-there

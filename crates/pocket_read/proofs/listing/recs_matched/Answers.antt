@@ -3,9 +3,9 @@ use Rattle.std.specs.Prelude.{filter}
 use Rattle.std.specs.Option.{option_copied}
 use Rattle.pocket_tables.specs.Reads.{is_above}
 use Rattle.pocket_tables.specs.Worlds.{recs_at}
+use Rattle.pocket_tables.proofs.NextLemmas.{all_above, found_less, found_more, read_all, read_next}
 use Rattle.pocket_tables.proofs.WorldLemmas.{ordered_from}
 use Rattle.pocket_read.specs.Pages.{is_wanted}
-use Rattle.pocket_read.proofs.ReadingLemmas.{all_above, found_less, found_more, read_all, read_next}
 use Rattle.pocket_read.proofs.listing.recs_matched.Goals as goal
 use Rattle.pocket_read.proofs.listing.recs_matched.Goals.{then-branch+in_ok-push, else-branch}
 

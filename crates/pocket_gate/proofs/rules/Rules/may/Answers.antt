@@ -1,15 +1,15 @@
 use Rattle.std.proofs.Common.{◌≡◌, true, false, ap, sym, ◌∙◌}
 use Rattle.std.specs.Prelude.{option_map}
+use Rattle.pocket_types.specs.Callers.{is_admin}
 use Rattle.pocket_types.specs.Within.{collections_of}
 use Rattle.pocket_resolve.specs.Fields.{collection_named}
 use Rattle.pocket_plan.specs.Cutting.{view_named}
 use Rattle.pocket_gate.specs.Built.{views_for, views_in}
-use Rattle.pocket_gate.specs.Rules.{is_admin}
 use Rattle.pocket_gate.proofs.Tests.{admin_verdict, test_there, verdict_found, views_in-rules_of}
 use Rattle.pocket_gate.proofs.rules.Rules.may.Goals as goal
 
-pub returns-then-is_admin_caller-clause-verdict : goal.returns-then-is_admin_caller-clause-verdict
-returns-then-is_admin_caller-clause-verdict g c =
+pub returns-then-is_admin-clause-verdict : goal.returns-then-is_admin-clause-verdict
+returns-then-is_admin-clause-verdict g c =
     let w = c.args.tables.now.world in
     let admin : is_admin c.args.ask.now.caller ≡ true = cc in
     admin_verdict w c.args.ask.now c.args.action c.args.rec.now admin (collection_named (collections_of w) c.args.collection.now)

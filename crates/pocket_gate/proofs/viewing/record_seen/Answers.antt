@@ -1,8 +1,8 @@
 use Rattle.std.proofs.Common.{ap, ◌∙◌}
 use Rattle.std.proofs.lemmas.Result.{IfOk-weaker}
 use Rattle.pocket_resolve.specs.Fields.{collection_named}
-use Rattle.pocket_read.proofs.SeenLemmas.{member_found, named_again}
-use Rattle.pocket_read.proofs.keys.member_seen.Goals as goal
+use Rattle.pocket_gate.proofs.ShownLemmas.{member_found, named_again}
+use Rattle.pocket_gate.proofs.viewing.record_seen.Goals as goal
 
 pub if_viewable-requires-clause-there : goal.if_viewable-requires-clause-there
 if_viewable-requires-clause-there g c = named_again _ _ _ (c.in-Some.ensures ∙ ap (λ cs. collection_named cs c.args.name.now) c.collections.ensures.collections)
