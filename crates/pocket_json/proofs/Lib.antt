@@ -1,3 +1,4 @@
+pub mod ChoosingLemmas
 pub mod Layers
 pub mod Numerals
 pub mod Outlines

@@ -1,0 +1,17 @@
+use Rattle.std.proofs.Common.{◌==◌, lit<, map, ap, ◌∙◌}
+use Rattle.std.proofs.lemmas.Iterator.Consumers.{YieldsList-end}
+use Rattle.std.proofs.lemmas.Iterator.Splits.{YieldsList-from_str_split}
+use Rattle.std.specs.Str.Iter.{split_text, split_has_more, split_pattern}
+use Rattle.std.specs.List.{slice_split}
+use Rattle.pocket_json.specs.Choosing.{paths_of}
+use Rattle.pocket_json.proofs.ChoosingLemmas.{now_mapped}
+use Rattle.pocket_json.proofs.choosing.field_paths.Goals as goal
+
+pub returns : goal.returns
+returns c =
+    let from = c.into_iter-path-iterator.ensures.into_iter_gives in
+    let split = c.split-path-items.ensures in
+    let list = YieldsList-from_str_split 44 c.as_str.result.now (lit< tt) (ap split_text from ∙ split.text) (ap split_has_more from ∙ split.has_more) (ap split_pattern from ∙ split.pattern) in
+    let t = YieldsList-end list c.loop-path.yielded _ c.loop-path.yielded_by _ _ c.in-None.is c.next.ensures.steps in
+    let keys = slice_split (λ b. b == 46) in
+    c.from_vec.ensures ∙ c.loop-path.invariant ∙ now_mapped keys c.loop-path.yielded ∙ ap (map keys) t.0 ∙ ap paths_of c.as_str.ensures

@@ -1,0 +1,6 @@
+use Rattle.std.proofs.Common.{◌≡◌, ◌==◌, map}
+use Rattle.std.specs.List.{slice_split}
+use Rattle.pocket_json.proofs.choosing.field_paths.Given as goal
+
+abbrev pub invariant-loop-path : goal.invariant-loop-path
+invariant-loop-path l = l.paths.items ≡ map (λ s. slice_split (λ b. b == 46) s.now) l.yielded
