@@ -33,6 +33,7 @@ fn outcome_of_text(
         "like" => values::liked(alloc, text),
         "lower" => values::lowered(alloc, text),
         "cell" => values::cell(alloc, text),
+        "choose" => values::chosen(alloc, text),
         "date" => values::date(alloc, text),
         "macro" => values::macro_at(alloc, text),
         "name" => texts::name(alloc, text),

@@ -1,6 +1,6 @@
-// Calls over values: comparison, likeness, cells, dates and macros.
+// Calls over values: comparison, likeness, cells, the choice of fields, dates and macros.
 use crate::trouble::Trouble;
-use pocket_json::read_jv;
+use pocket_json::{choose, read_jv};
 use pocket_ops::{
     cell_value, compare, count_value, date_read, date_text, like, lowered_value, macro_value,
 };
@@ -160,6 +160,19 @@ fn date_cell(word: &str) -> Cell {
 fn json_cell(alloc: Global, word: &str) -> Result<Cell, Trouble> {
     match read_jv(alloc, word.as_bytes()) {
         Ok(tree) => Ok(Cell::Json(tree)),
+        Err(_) => Err(Trouble::Case("no JSON")),
+    }
+}
+
+/// The compact text of what a text of fields keeps of a tree, of `"FIELDS" TREE`.
+pub fn chosen(alloc: Global, text: &str) -> Result<String, Trouble> {
+    let (fields, tree) = text
+        .strip_prefix('"')
+        .and_then(|rest| rest.split_once("\" "))
+        .ok_or("no fields between quotes")?;
+    let fields = Text::from_str(alloc, fields)?;
+    match read_jv(alloc, tree.as_bytes()) {
+        Ok(tree) => Ok(choose(alloc, &tree, &fields)?.print(alloc)?.into_string()),
         Err(_) => Err(Trouble::Case("no JSON")),
     }
 }

@@ -1,3 +1,4 @@
+pub mod DependenceLemmas
 pub mod ListLemmas
 pub mod OpeningLemmas
 pub mod ReadingLemmas

@@ -17,17 +17,15 @@ use Rattle.pocket_types.specs.declared.records.Collection.{Collection}
 use Rattle.pocket_types.specs.declared.records.Rec.{Rec}
 use Rattle.pocket_types.specs.declared.requests.Action.TheVariants as action
 use Rattle.pocket_types.specs.declared.requests.Ask.{Ask}
-use Rattle.pocket_types.specs.declared.requests.Caller.{Caller}
 use Rattle.pocket_types.specs.declared.world.Shelf.{Shelf}
 use Rattle.pocket_types.specs.declared.world.World.{World}
-use Rattle.pocket_ops.specs.Trees.{rec_jv}
 use Rattle.pocket_resolve.specs.Fields.{collection_named}
 use Rattle.pocket_store.specs.SoundStates.{IsSoundWorld}
 use Rattle.pocket_tables.specs.Worlds.{rec_at, recs_at}
-use Rattle.pocket_gate.specs.Rules.{is_admin}
+use Rattle.pocket_gate.specs.Rules.{keeps_out}
 use Rattle.pocket_gate.specs.declared.verdict.Verdict.TheVariants.{Locked}
 use Rattle.pocket_read.specs.Filtering.{client_of}
-use Rattle.pocket_read.specs.Pages.{Search, is_wanted, keeps_out, matched, page_of, page_size, search_of, searched}
+use Rattle.pocket_read.specs.Pages.{Search, is_wanted, matched, page_of, page_size, search_of, searched}
 use Rattle.pocket_read.specs.Sorting.{in_order, insert_by, key_of, sorted_ids, stands_before}
 use Rattle.pocket_read.specs.declared.faults.ReadFault.{ReadFault}
 use Rattle.pocket_read.specs.declared.faults.ReadFault.TheVariants.{Denied}
@@ -37,14 +35,16 @@ use Rattle.pocket_api.specs.declared.call.ListQuery.{ListQuery}
 use Rattle.pocket_api.specs.declared.why.Why.TheVariants as why
 use Rattle.pocket_core.specs.Lists.{IsSmall, list_outcome, listed_outcome, rec_trees}
 use Rattle.pocket_core.specs.Outcomes.{Outcome}
+use Rattle.pocket_core.specs.Showing.{displayed}
+use Rattle.pocket_core.specs.declared.showing.Display.{Display}
 
-module _ (w : World) (who : Caller) (c : Collection) where
+module _ (w : World) (ask : Ask) (c : Collection) (display : Display) where
   abbrev tree_of : Rec → Jv
-  tree_of r = rec_jv c r (is_admin who)
+  tree_of = displayed w ask c display
 
   -- the trees with those of one id more
   pub rec_trees_more : (ids : List Id) (k : ℕ) (id : Id) → k < length ids → id ≡ get_or ids k id
-      → rec_trees w who c (take (k + 1) ids) ≡ rec_trees w who c (take k ids) ++ map (λ r. rec_jv c r (is_admin who)) (cons_option (rec_at w c.name id) [])
+      → rec_trees w ask c display (take (k + 1) ids) ≡ rec_trees w ask c display (take k ids) ++ map tree_of (cons_option (rec_at w c.name id) [])
   rec_trees_more ids k id within is =
       ap (λ l. map tree_of (filter_map (rec_at w c.name) l)) (take_more ids k id within ∙ ap (λ x. take k ids ++ x ∷ []) (sym is))
       ∙ ap (map tree_of) (filter_map-append (rec_at w c.name) (take k ids) (id ∷ []))

@@ -8,8 +8,8 @@ use Rattle.pocket_types.specs.declared.requests.Ask.{Ask}
 use Rattle.pocket_types.specs.declared.world.World.{World}
 use Rattle.pocket_resolve.specs.Fields.{collection_named}
 use Rattle.pocket_tables.specs.Worlds.{rec_at}
-use Rattle.pocket_gate.specs.Rules.{verdict}
-use Rattle.pocket_read.specs.Pages.{keeps_out, page_of}
+use Rattle.pocket_gate.specs.Rules.{keeps_out, verdict}
+use Rattle.pocket_read.specs.Pages.{page_of}
 use Rattle.pocket_core.specs.Answers.{IsHistoryAfter, after, answer, answer_of, call_outcome, is_full, outcome, tally_of, work_outcome}
 use Rattle.pocket_core.specs.Lists.{list_outcome, page_or_refusal}
 use Rattle.pocket_core.specs.Outcomes.{Empty, Enters, Outcome, Shows, Tally, Tree, is_entered}
@@ -22,6 +22,7 @@ use Rattle.pocket_api.specs.declared.why.Why.TheVariants as why
 use Rattle.pocket_api.specs.declared.call.Call.{Call}
 use Rattle.pocket_api.specs.declared.call.Call.TheVariants as call
 use Rattle.pocket_api.specs.declared.call.ListQuery.{ListQuery}
+use Rattle.pocket_api.specs.declared.call.Shown.{Shown}
 use Rattle.pocket_api.specs.declared.call.Target.{Target}
 use Rattle.pocket_api.specs.declared.work.Work.{Work}
 
@@ -34,9 +35,9 @@ step_reads : {A : Type 0} (x : Result A Refusal) (f : A → Outcome) → ((a : A
 step_reads (Ok a) f h = h a
 step_reads (Err e) f h = tt
 
-view_reads : (w : World) (ask : Ask) (target : Target) → IsReading (view_outcome w ask target)
+view_reads : (w : World) (ask : Ask) (target : Target) (shown : Shown) → IsReading (view_outcome w ask target shown)
 unfolding view_outcome
-view_reads w ask target =
+view_reads w ask target shown =
     step_reads (or_refuse (collection_named (collections_of w) target.collection) (because why.NoCollection)) _
     (λ c.
     step_reads (refuse (keeps_out ask.caller c.view_rule) (because (why.Locked c.name action.View))) _
@@ -58,7 +59,7 @@ call_reads w ask (call.CollectionGet place) = tt
 call_reads w ask (call.CollectionSet place body) = tt
 call_reads w ask (call.CollectionDrop place) = tt
 call_reads w ask (call.List name query) = list_reads w ask name query
-call_reads w ask (call.View target shown) = view_reads w ask target
+call_reads w ask (call.View target shown) = view_reads w ask target shown
 call_reads w ask (call.Create collection body shown) = tt
 call_reads w ask (call.Update target body shown) = tt
 call_reads w ask (call.Remove target) = tt

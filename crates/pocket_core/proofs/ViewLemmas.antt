@@ -22,9 +22,10 @@ use Rattle.pocket_tables.proofs.KeyLemmas.{key_false}
 use Rattle.pocket_gate.proofs.Tests.{found_bears_name}
 use Rattle.pocket_api.specs.Refusals.{because}
 use Rattle.pocket_core.specs.Outcomes.{Outcome}
-use Rattle.pocket_read.specs.Pages.{keeps_out}
+use Rattle.pocket_gate.specs.Rules.{keeps_out}
 use Rattle.pocket_core.specs.Views.{rec_named_outcome, view_outcome}
 use Rattle.pocket_api.specs.declared.why.Why.TheVariants as why
+use Rattle.pocket_api.specs.declared.call.Shown.{Shown}
 use Rattle.pocket_api.specs.declared.call.Target.{Target}
 
 -- what is found is one of the items
@@ -61,23 +62,23 @@ found_by_name cs name c e = ap (collection_named cs) (found_bears_name cs name c
 
 -- ---- a view, refusal by refusal
 
-module _ (w : World) (ask : Ask) (target : Target) where
+module _ (w : World) (ask : Ask) (target : Target) (shown : Shown) where
   abbrev pub found : Option Collection
   found = collection_named (collections_of w) target.collection
 
   abbrev pub unlocked : Collection → Outcome
-  unlocked c = refuse (keeps_out ask.caller c.view_rule) (because (why.Locked c.name action.View)) >>= λ _. rec_named_outcome w ask c target.id
+  unlocked c = refuse (keeps_out ask.caller c.view_rule) (because (why.Locked c.name action.View)) >>= λ _. rec_named_outcome w ask c target.id shown
 
-  pub view_without : found ≡ None → view_outcome w ask target ≡ Err (because why.NoCollection)
+  pub view_without : found ≡ None → view_outcome w ask target shown ≡ Err (because why.NoCollection)
   unfolding view_outcome
   view_without e = ap (λ o. or_refuse o (because why.NoCollection) >>= unlocked) e
 
-  pub view_found : (c : Collection) → found ≡ Some c → view_outcome w ask target ≡ unlocked c
+  pub view_found : (c : Collection) → found ≡ Some c → view_outcome w ask target shown ≡ unlocked c
   unfolding view_outcome
   view_found c e = ap (λ o. or_refuse o (because why.NoCollection) >>= unlocked) e
 
-  pub view_locked : (c : Collection) → found ≡ Some c → keeps_out ask.caller c.view_rule ≡ true → view_outcome w ask target ≡ Err (because (why.Locked c.name action.View))
-  view_locked c e locked = view_found c e ∙ ap (λ b. refuse b (because (why.Locked c.name action.View)) >>= λ _. rec_named_outcome w ask c target.id) locked
+  pub view_locked : (c : Collection) → found ≡ Some c → keeps_out ask.caller c.view_rule ≡ true → view_outcome w ask target shown ≡ Err (because (why.Locked c.name action.View))
+  view_locked c e locked = view_found c e ∙ ap (λ b. refuse b (because (why.Locked c.name action.View)) >>= λ _. rec_named_outcome w ask c target.id shown) locked
 
-  pub view_open : (c : Collection) → found ≡ Some c → keeps_out ask.caller c.view_rule ≡ false → view_outcome w ask target ≡ rec_named_outcome w ask c target.id
-  view_open c e free = view_found c e ∙ ap (λ b. refuse b (because (why.Locked c.name action.View)) >>= λ _. rec_named_outcome w ask c target.id) free
+  pub view_open : (c : Collection) → found ≡ Some c → keeps_out ask.caller c.view_rule ≡ false → view_outcome w ask target shown ≡ rec_named_outcome w ask c target.id shown
+  view_open c e free = view_found c e ∙ ap (λ b. refuse b (because (why.Locked c.name action.View)) >>= λ _. rec_named_outcome w ask c target.id shown) free

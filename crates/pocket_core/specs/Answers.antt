@@ -25,7 +25,7 @@ use Rattle.pocket_api.specs.declared.work.Work.{Work}
 -- the outcome of each call; one that isn't built yet has no route
 abbrev pub call_outcome : World → Ask → Call → Outcome
 call_outcome w ask (call.List name query) = list_outcome w ask name query
-call_outcome w ask (call.View target shown) = view_outcome w ask target
+call_outcome w ask (call.View target shown) = view_outcome w ask target shown
 call_outcome w ask _ = Err (because why.NoRoute)
 
 -- the outcome of a work in a state

@@ -2,8 +2,10 @@ pub mod Answers
 pub mod Clients
 pub mod Faults
 pub mod Kept
+pub mod Laws
 pub mod Lists
 pub mod Opening
 pub mod Outcomes
+pub mod Showing
 pub mod States
 pub mod Views

@@ -8,12 +8,10 @@ use Rattle.pocket_types.specs.declared.ids.Id.{Id}
 use Rattle.pocket_types.specs.declared.json.Jv.{Jv}
 use Rattle.pocket_types.specs.declared.records.Collection.{Collection}
 use Rattle.pocket_types.specs.declared.requests.Ask.{Ask}
-use Rattle.pocket_types.specs.declared.requests.Caller.{Caller}
 use Rattle.pocket_types.specs.declared.world.World.{World}
-use Rattle.pocket_ops.specs.Trees.{list_jv, num_jv, rec_jv}
+use Rattle.pocket_ops.specs.Trees.{list_jv, num_jv}
 use Rattle.pocket_resolve.specs.Fields.{collection_named}
 use Rattle.pocket_tables.specs.Worlds.{rec_at}
-use Rattle.pocket_gate.specs.Rules.{is_admin}
 use Rattle.pocket_gate.specs.declared.verdict.Verdict.{Verdict}
 use Rattle.pocket_gate.specs.declared.verdict.Verdict.TheVariants as verdict_is
 use Rattle.pocket_read.specs.Pages.{page_of}
@@ -25,6 +23,8 @@ use Rattle.pocket_api.specs.declared.call.ListQuery.{ListQuery}
 use Rattle.pocket_api.specs.declared.why.Why.{Why}
 use Rattle.pocket_api.specs.declared.why.Why.TheVariants as why
 use Rattle.pocket_core.specs.Outcomes.{Outcome, Shows, Tree}
+use Rattle.pocket_core.specs.Showing.{display_of, displayed, shown_of}
+use Rattle.pocket_core.specs.declared.showing.Display.{Display}
 
 -- ---- refusals
 
@@ -54,8 +54,8 @@ total_jv None = num_jv (neg_ℤ (pos 1))
 total_jv (Some n) = num_jv (pos n)
 
 -- the records of these ids, as the caller is shown them
-abbrev pub rec_trees : World → Caller → Collection → List Id → List Jv
-rec_trees w who c ids = map (λ r. rec_jv c r (is_admin who)) (filter_map (rec_at w c.name) ids)
+abbrev pub rec_trees : World → Ask → Collection → Display → List Id → List Jv
+rec_trees w ask c display ids = map (displayed w ask c display) (filter_map (rec_at w c.name) ids)
 
 -- how many pages the records of a list fill
 abbrev pub page_count : Page → Option ℕ
@@ -80,14 +80,14 @@ pub record IsSmall (page : Page) : Type 0 where
 -- ---- outcomes
 
 -- the page with its records, as the caller is shown them
-abbrev pub shown_page : World → Caller → Collection → Page → Outcome
-shown_page w who c page = Ok (Shows (Tree (page_jv (rec_trees w who c page.ids) page)))
+abbrev pub shown_page : World → Ask → Collection → Display → Page → Outcome
+shown_page w ask c display page = Ok (Shows (Tree (page_jv (rec_trees w ask c display page.ids) page)))
 
 -- the page of a collection's list
 abbrev pub listed_outcome : World → Ask → ListQuery → Collection → Outcome
 listed_outcome w ask query c = do
   page ← page_or_refusal (page_of w ask c query)
-  shown_page w ask.caller c page
+  shown_page w ask c (display_of (shown_of query)) page
 
 -- a list: the collection first, then what the page of its list is
 unfoldable pub list_outcome : World → Ask → List ℕ → ListQuery → Outcome

@@ -10,6 +10,7 @@ pub mod laws;
 mod lists;
 mod opening;
 mod refusals;
+mod showing;
 mod state;
 mod views;
 

@@ -2,24 +2,24 @@
 ghost use Rattle.std.specs.Prelude.{◌≡◌, ◌≤◌, ◌++◌, ◌∷◌, [], Err, IfOk, IfSome, Some, map};
 ghost use Rattle.pocket_types.specs.Maps.{member_of};
 ghost use Rattle.pocket_types.specs.Within.{collections_of};
-ghost use Rattle.pocket_ops.specs.Trees.{rec_jv};
 ghost use Rattle.pocket_resolve.specs.Fields.{collection_named};
 ghost use Rattle.pocket_store.specs.SoundStates.{IsSoundWorld};
 ghost use Rattle.pocket_gate.specs.Built.{rules_of};
-ghost use Rattle.pocket_gate.specs.Rules.{is_admin};
 ghost use Rattle.pocket_api.specs.Refusals.{because};
 ghost use Rattle.pocket_core.specs.Answers.{IsAnswer, answer_of};
 ghost use Rattle.pocket_core.specs.Lists as lists;
 ghost use Rattle.pocket_core.specs.Lists.{IsSmall, list_outcome, listed_outcome, read_why, verdict_why};
+ghost use Rattle.pocket_core.specs.Showing.{display_of, displayed, shown_of};
 
 use crate::refusals::refuse;
-use crate::views::{find_collection, is_admin_caller, text_of};
+use crate::showing::{Display, display_of, display_rec};
+use crate::views::{find_collection, text_of};
 use pocket_api::{ListQuery, Reply, Why};
 use pocket_gate::{Rules, Verdict};
-use pocket_ops::rec_jv;
+use pocket_ops::push_member;
 use pocket_read::{Page, ReadFault, list};
 use pocket_tables::Tables;
-use pocket_types::{Ask, Caller, Collection, Id, Jv, Member, Rec, Seq, Steps, Text};
+use pocket_types::{Ask, Collection, Id, Jv, Member, Rec, Seq, Steps, Text};
 use std::alloc::{AllocError, Global};
 use std::sync::ledger::Ledger;
 
@@ -49,19 +49,6 @@ fn refuse_list(alloc: Global, fault: ReadFault, at: u64) -> Result<Reply, AllocE
 }
 
 // ---- the JSON of a page
-
-fn push_member(
-    members: &mut Vec<Member>,
-    alloc: Global,
-    key: &str,
-    value: Jv,
-) -> Result<(), AllocError>
-    ensures { IfOk result (λ _. members.new.items ≡ members.old.items ++ member_of (key.now, value) ∷ []) }
-{
-    let key = Text::from_str(alloc, key)?;
-    members.push(Member { key, value })?;
-    Ok(())
-}
 
 /// A total, or -1 where it is left out.
 fn total_jv(total: Option<u64>) -> Jv
@@ -124,16 +111,23 @@ fn page_jv(alloc: Global, items: Seq<Jv>, page: &Page) -> Result<Jv, AllocError>
 }
 
 /// Adds the tree of a record, as its caller is shown it.
-fn push_rec(
+fn push_rec<L: Ledger>(
     trees: &mut Seq<Jv>,
     alloc: Global,
-    caller: &Caller,
+    tables: &Tables,
+    rules: &Rules,
+    ask: &Ask,
     collection: &Collection,
+    display: &Display,
     rec: &Rec,
+    steps: &mut Steps<L>,
 ) -> Result<(), AllocError>
-    ensures { IfOk result (λ _. trees.new ≡ trees.old ++ rec_jv collection.now rec.now (is_admin caller.now) ∷ []) }
+    requires rules { rules.now ≡ rules_of (collections_of tables.now.world) }
+    requires there { collection_named (collections_of tables.now.world) collection.now.name ≡ Some collection.now }
+    ensures trees { IfOk result (λ _. trees.new ≡ trees.old ++ displayed tables.now.world ask.now collection.now display.now rec.now ∷ []) }
+    ensures steps { steps.old ≤ steps.new }
 {
-    let tree = rec_jv(alloc, collection, rec, is_admin_caller(caller))?;
+    let tree = display_rec(alloc, tables, rules, ask, collection, display, rec, steps)?;
     trees.push(tree)
 }
 
@@ -141,18 +135,24 @@ fn push_rec(
 fn rec_trees<L: Ledger>(
     alloc: Global,
     tables: &Tables,
-    caller: &Caller,
+    rules: &Rules,
+    ask: &Ask,
     collection: &Collection,
+    display: &Display,
     ids: &[Id],
     steps: &mut Steps<L>,
 ) -> Result<Seq<Jv>, AllocError>
-    ensures trees { IfOk result (λ trees. trees ≡ lists.rec_trees tables.now.world caller.now collection.now ids.now) }
+    requires rules { rules.now ≡ rules_of (collections_of tables.now.world) }
+    requires there { collection_named (collections_of tables.now.world) collection.now.name ≡ Some collection.now }
+    ensures trees { IfOk result (λ trees. trees ≡ lists.rec_trees tables.now.world ask.now collection.now display.now ids.now) }
     ensures steps { steps.old ≤ steps.new }
 {
     let mut trees = Seq::new(alloc);
     for id in ids {
         if let Some(rec) = tables.rec(&collection.name, *id, steps) {
-            push_rec(&mut trees, alloc, caller, collection, rec)?;
+            push_rec(
+                &mut trees, alloc, tables, rules, ask, collection, display, rec, steps,
+            )?;
         }
     }
     Ok(trees)
@@ -160,30 +160,50 @@ fn rec_trees<L: Ledger>(
 
 // ---- answers
 
-/// The page as its caller is shown it.
+/// The page with the trees of its records.
+fn page_tree<L: Ledger>(
+    alloc: Global,
+    tables: &Tables,
+    rules: &Rules,
+    ask: &Ask,
+    collection: &Collection,
+    display: &Display,
+    page: &Page,
+    steps: &mut Steps<L>,
+) -> Result<Jv, AllocError>
+    requires small { IsSmall page.now }
+    requires rules { rules.now ≡ rules_of (collections_of tables.now.world) }
+    requires there { collection_named (collections_of tables.now.world) collection.now.name ≡ Some collection.now }
+    ensures tree { IfOk result (λ tree. tree ≡ lists.page_jv (lists.rec_trees tables.now.world ask.now collection.now display.now page.now.ids) page.now) }
+    ensures steps { steps.old ≤ steps.new }
+{
+    let ids = page.ids.as_slice();
+    let items = rec_trees(alloc, tables, rules, ask, collection, display, ids, steps)?;
+    page_jv(alloc, items, page)
+}
+
+/// The page as its caller is shown it. What the query asks to be shown of each record is read once.
 fn show_page<L: Ledger>(
     alloc: Global,
     tables: &Tables,
-    caller: &Caller,
+    rules: &Rules,
+    ask: &Ask,
     collection: &Collection,
+    query: &ListQuery,
     page: &Page,
     at: u64,
     steps: &mut Steps<L>,
 ) -> Result<Reply, AllocError>
-    requires { IsSmall page.now }
-    ensures reply { IfOk result (IsAnswer (answer_of at (lists.shown_page tables.now.world caller.now collection.now page.now))) }
+    requires small { IsSmall page.now }
+    requires rules { rules.now ≡ rules_of (collections_of tables.now.world) }
+    requires there { collection_named (collections_of tables.now.world) collection.now.name ≡ Some collection.now }
+    ensures reply { IfOk result (IsAnswer (answer_of at (lists.shown_page tables.now.world ask.now collection.now (display_of (shown_of query.now)) page.now))) }
     ensures steps { steps.old ≤ steps.new }
 {
-    let items = rec_trees(
-        alloc,
-        tables,
-        caller,
-        collection,
-        page.ids.as_slice(),
-        steps,
-    )?;
-    let tree = page_jv(alloc, items, page)?;
-    Ok(Reply::shown(text_of(alloc, tree)?, at))
+    let display = display_of(alloc, query.expand.as_ref(), query.fields.as_ref())?;
+    let tree = page_tree(alloc, tables, rules, ask, collection, &display, page, steps);
+    drop(display);
+    Ok(Reply::shown(text_of(alloc, tree?)?, at))
 }
 
 /// A list of a collection.
@@ -204,7 +224,9 @@ fn answer_listed<L: Ledger>(
     ensures steps { steps.old ≤ steps.new }
 {
     match list(alloc, tables, rules, ask, &collection.name, query, steps) {
-        Ok(page) => show_page(alloc, tables, &ask.caller, collection, &page, at, steps),
+        Ok(page) => show_page(
+            alloc, tables, rules, ask, collection, query, &page, at, steps,
+        ),
         Err(fault) => refuse_list(alloc, fault, at),
     }
 }

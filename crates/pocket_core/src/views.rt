@@ -3,38 +3,25 @@ ghost use Rattle.std.specs.Prelude.{◌≡◌, ◌≤◌, false, IfOk, Ok, Some}
 ghost use Rattle.std.specs.Option.{option_copied};
 ghost use Rattle.pocket_types.specs.Json.{printed};
 ghost use Rattle.pocket_types.specs.Within.{collections_of};
-ghost use Rattle.pocket_ops.specs.Trees.{rec_jv};
 ghost use Rattle.pocket_resolve.specs.Fields.{collection_named};
 ghost use Rattle.pocket_store.specs.SoundStates.{IsSoundWorld};
 ghost use Rattle.pocket_tables.specs.Worlds.{rec_at};
 ghost use Rattle.pocket_gate.specs.Built.{rules_of};
-ghost use Rattle.pocket_gate.specs.Rules.{is_admin};
+ghost use Rattle.pocket_gate.specs.Rules.{keeps_out};
 ghost use Rattle.pocket_core.specs.Answers.{IsAnswer, answer_of, call_outcome};
 ghost use Rattle.pocket_core.specs.Outcomes.{Shows, Tree};
+ghost use Rattle.pocket_core.specs.Showing.{shown_jv};
 ghost use Rattle.pocket_core.specs.Views.{rec_named_outcome, rec_outcome, view_outcome};
-ghost use Rattle.pocket_read.specs.Pages.{keeps_out};
 
 use crate::lists::answer_list;
 use crate::refusals::refuse;
-use pocket_api::{Call, Reply, Target, Why};
-use pocket_gate::{Rules, Verdict};
-use pocket_ops::rec_jv;
+use crate::showing::shown_rec;
+use pocket_api::{Call, Reply, Shown, Target, Why};
+use pocket_gate::{Rules, Verdict, is_locked_for};
 use pocket_tables::Tables;
-use pocket_types::{Action, Ask, Caller, Collection, Id, Jv, Name, Rec, Rule, Steps, Text};
+use pocket_types::{Action, Ask, Collection, Id, Jv, Name, Rec, Steps, Text};
 use std::alloc::{AllocError, Global};
 use std::sync::ledger::Ledger;
-
-pub(crate) fn is_admin_caller(caller: &Caller) -> bool
-    ensures { result ≡ is_admin caller.now }
-{
-    matches!(caller, Caller::Admin)
-}
-
-fn is_locked_for(caller: &Caller, rule: &Rule) -> bool
-    ensures { result ≡ keeps_out caller.now rule.now }
-{
-    !is_admin_caller(caller) && matches!(rule, Rule::Locked)
-}
 
 /// The collection of this name.
 pub(crate) fn find_collection<'a>(
@@ -75,16 +62,23 @@ pub(crate) fn text_of(alloc: Global, tree: Jv) -> Result<Text, AllocError>
 }
 
 /// The record as its caller is shown it.
-fn show(
+fn show<L: Ledger>(
     alloc: Global,
-    caller: &Caller,
+    tables: &Tables,
+    rules: &Rules,
+    ask: &Ask,
     collection: &Collection,
+    shown: &Shown,
     rec: &Rec,
     at: u64,
+    steps: &mut Steps<L>,
 ) -> Result<Reply, AllocError>
-    ensures { IfOk result (IsAnswer (answer_of at (Ok (Shows (Tree (rec_jv collection.now rec.now (is_admin caller.now))))))) }
+    requires rules { rules.now ≡ rules_of (collections_of tables.now.world) }
+    requires there { collection_named (collections_of tables.now.world) collection.now.name ≡ Some collection.now }
+    ensures reply { IfOk result (IsAnswer (answer_of at (Ok (Shows (Tree (shown_jv tables.now.world ask.now collection.now shown.now rec.now)))))) }
+    ensures steps { steps.old ≤ steps.new }
 {
-    let tree = rec_jv(alloc, collection, rec, is_admin_caller(caller))?;
+    let tree = shown_rec(alloc, tables, rules, ask, collection, shown, rec, steps)?;
     Ok(Reply::shown(text_of(alloc, tree)?, at))
 }
 
@@ -95,18 +89,19 @@ fn answer_rec<L: Ledger>(
     rules: &Rules,
     ask: &Ask,
     collection: &Collection,
+    shown: &Shown,
     rec: &Rec,
     at: u64,
     steps: &mut Steps<L>,
 ) -> Result<Reply, AllocError>
     requires rules { rules.now ≡ rules_of (collections_of tables.now.world) }
     requires there { collection_named (collections_of tables.now.world) collection.now.name ≡ Some collection.now }
-    ensures reply { IfOk result (IsAnswer (answer_of at (rec_outcome tables.now.world ask.now collection.now rec.now))) }
+    ensures reply { IfOk result (IsAnswer (answer_of at (rec_outcome tables.now.world ask.now collection.now shown.now rec.now))) }
     ensures steps { steps.old ≤ steps.new }
 {
     let name = &collection.name;
     match rules.may(alloc, tables, ask, Action::View, name, rec, steps)? {
-        Verdict::Allowed => show(alloc, &ask.caller, collection, rec, at),
+        Verdict::Allowed => show(alloc, tables, rules, ask, collection, shown, rec, at, steps),
         Verdict::Locked(name, action) => refuse(alloc, Why::Locked(name, action), at),
         Verdict::RuleFalse(name, action) => refuse(alloc, Why::RuleFalse(name, action), at),
     }
@@ -120,17 +115,18 @@ fn answer_id<L: Ledger>(
     ask: &Ask,
     collection: &Collection,
     id: &str,
+    shown: &Shown,
     at: u64,
     steps: &mut Steps<L>,
 ) -> Result<Reply, AllocError>
     requires sound { IsSoundWorld tables.now.world }
     requires rules { rules.now ≡ rules_of (collections_of tables.now.world) }
     requires there { collection_named (collections_of tables.now.world) collection.now.name ≡ Some collection.now }
-    ensures reply { IfOk result (IsAnswer (answer_of at (rec_named_outcome tables.now.world ask.now collection.now id.now))) }
+    ensures reply { IfOk result (IsAnswer (answer_of at (rec_named_outcome tables.now.world ask.now collection.now id.now shown.now))) }
     ensures steps { steps.old ≤ steps.new }
 {
     match find_rec(tables, &collection.name, id, steps) {
-        Some(rec) => answer_rec(alloc, tables, rules, ask, collection, rec, at, steps),
+        Some(rec) => answer_rec(alloc, tables, rules, ask, collection, shown, rec, at, steps),
         None => refuse(alloc, Why::NoRecord, at),
     }
 }
@@ -142,12 +138,13 @@ fn answer_view<L: Ledger>(
     rules: &Rules,
     ask: &Ask,
     target: &Target,
+    shown: &Shown,
     at: u64,
     steps: &mut Steps<L>,
 ) -> Result<Reply, AllocError>
     requires sound { IsSoundWorld tables.now.world }
     requires rules { rules.now ≡ rules_of (collections_of tables.now.world) }
-    ensures reply { IfOk result (IsAnswer (answer_of at (view_outcome tables.now.world ask.now target.now))) }
+    ensures reply { IfOk result (IsAnswer (answer_of at (view_outcome tables.now.world ask.now target.now shown.now))) }
     ensures steps { steps.old ≤ steps.new }
 {
     let Some(collection) = find_collection(tables.collections(), target.collection.as_str()) else {
@@ -158,7 +155,7 @@ fn answer_view<L: Ledger>(
         return refuse(alloc, Why::Locked(name, Action::View), at);
     }
     let id = target.id.as_str();
-    answer_id(alloc, tables, rules, ask, collection, id, at, steps)
+    answer_id(alloc, tables, rules, ask, collection, id, shown, at, steps)
 }
 
 /// The answer to a call. Those that aren't built yet are answered as if they had no route.
@@ -180,8 +177,8 @@ pub(crate) fn answer_call<L: Ledger>(
         Call::List { collection, query } => answer_list(
             alloc, tables, rules, ask, collection, query, at, steps,
         ),
-        Call::View { target, shown: _ } => answer_view(
-            alloc, tables, rules, ask, target, at, steps,
+        Call::View { target, shown } => answer_view(
+            alloc, tables, rules, ask, target, shown, at, steps,
         ),
         _ => refuse(alloc, Why::NoRoute, at),
     }

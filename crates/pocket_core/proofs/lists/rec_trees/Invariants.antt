@@ -4,6 +4,6 @@ use Rattle.pocket_core.proofs.lists.rec_trees.Given as goal
 
 abbrev pub invariant-loop-id : goal.invariant-loop-id
 invariant-loop-id g l = record {
-  trees : l.trees ≡ lists.rec_trees l.tables.world l.caller l.collection (take l.id-index l.ids);
+  trees : l.trees ≡ lists.rec_trees l.tables.world l.ask l.collection l.display (take l.id-index l.ids);
   steps : l.fn.steps ≤ l.steps;
 }

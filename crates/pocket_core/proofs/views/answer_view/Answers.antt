@@ -10,12 +10,12 @@ use Rattle.pocket_core.proofs.views.answer_view.Goals as goal
 pub returns-in_default-clause-reply : goal.returns-in_default-clause-reply
 returns-in_default-clause-reply g c =
     let none = rw (c.collections.ensures.collections, c.as_str.ensures) at c.in_default.ensures in
-    subst (λ o. IfOk c.refuse.result (IsAnswer (answer_of c.args.at o))) (sym (view_without c.args.tables.now.world c.args.ask.now c.args.target.now (sym none))) c.refuse.ensures
+    subst (λ o. IfOk c.refuse.result (IsAnswer (answer_of c.args.at o))) (sym (view_without c.args.tables.now.world c.args.ask.now c.args.target.now c.args.shown.now (sym none))) c.refuse.ensures
 
 pub returns-then-is_locked_for-clause-reply : goal.returns-then-is_locked_for-clause-reply
 returns-then-is_locked_for-clause-reply g c =
     let found = rw (c.collections.ensures.collections, c.as_str.ensures) at c.in-Some.ensures in
-    let locked = view_locked c.args.tables.now.world c.args.ask.now c.args.target.now c.in-Some.collection.now (sym found) (sym c.if-is_locked_for.ensures) in
+    let locked = view_locked c.args.tables.now.world c.args.ask.now c.args.target.now c.args.shown.now c.in-Some.collection.now (sym found) (sym c.if-is_locked_for.ensures) in
     let refused = subst (λ name. IfOk c.refuse-then-is_locked_for.result (IsAnswer (answer_of c.args.at (Err (because (why.Locked name action.View))))))
     c.in_ok-name.ensures.cases c.refuse-then-is_locked_for.ensures in
     subst (λ o. IfOk c.refuse-then-is_locked_for.result (IsAnswer (answer_of c.args.at o))) (sym locked) refused
@@ -28,5 +28,5 @@ answer_id-requires-clause-there g c =
 pub returns-clause-reply : goal.returns-clause-reply
 returns-clause-reply g c =
     let found = rw (c.collections.ensures.collections, c.as_str.ensures) at c.in-Some.ensures in
-    let shown = view_open c.args.tables.now.world c.args.ask.now c.args.target.now c.in-Some.collection.now (sym found) (sym c.if-is_locked_for.ensures) in
+    let shown = view_open c.args.tables.now.world c.args.ask.now c.args.target.now c.args.shown.now c.in-Some.collection.now (sym found) (sym c.if-is_locked_for.ensures) in
     subst (λ o. IfOk c.answer_id.result (IsAnswer (answer_of c.args.at o))) (sym shown) (rw c.as_str-id.ensures at c.answer_id.ensures.reply)
