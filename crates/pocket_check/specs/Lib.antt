@@ -1,0 +1,5 @@
+pub mod Answers
+pub mod Cells
+pub mod Bodies
+pub mod Validity
+pub mod Laws

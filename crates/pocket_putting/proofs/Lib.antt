@@ -1,0 +1,5 @@
+pub mod PutLaws
+pub mod PutLemmas
+pub mod PutListLemmas
+pub mod PutRowLemmas
+pub mod PutWorldLemmas
