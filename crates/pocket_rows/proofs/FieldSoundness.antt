@@ -61,7 +61,7 @@ all_sound read P Q one (t ∷ ts) h =
 
 -- ---- what stands under a key
 
-value_shallow : (key : List ℕ) (ms : List Member) → AreShallow ms → IfSome (value_under key ms) IsCellTree
+pub value_shallow : (key : List ℕ) (ms : List Member) → AreShallow ms → IfSome (value_under key ms) IsCellTree
 value_shallow key [] h = tt
 value_shallow key (m ∷ ms) h =
     if_some (bytes_eq m.key key) (Some m.value) (value_under key ms) IsCellTree (h 0 m (omega arith)) (value_shallow key ms (λ k d l. h (suc k) d (omega arith)))

@@ -7,7 +7,7 @@ ghost use Rattle.pocket_rows.specs.CollectionRows.{ReadsFieldsUnder, HasNoCollec
 ghost use Rattle.pocket_rows.specs.RowReading.{KeepsNoCollection, KeepsCollection};
 
 use crate::fields::fields_of;
-use crate::members::{members_of, text_under, value_under};
+use crate::members::{cell_tree_under, members_of, text_under};
 use crate::rules::rules_under;
 use crate::scalars;
 use pocket_keeper::{KeptRow, row_of_collection};
@@ -31,7 +31,7 @@ fn fields_under(alloc: Global, members: &[Member]) -> Result<Option<Seq<Field>>,
     requires { AreShallow members.now }
     ensures { IfOk result (λ found. ReadsFieldsUnder members.now found) }
 {
-    match value_under(members, "fields") {
+    match cell_tree_under(members, "fields") {
         Some(tree) => fields_of(alloc, tree),
         None => Ok(None),
     }

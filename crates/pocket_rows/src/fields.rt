@@ -6,7 +6,7 @@ ghost use Rattle.pocket_rows.specs.FieldReading.{field_at, field_name_at, field_
 ghost use Rattle.pocket_types.specs.Sound.{IsCellTree, is_reserved};
 
 use crate::kinds::{kind_of, may_be_unique};
-use crate::members::value_under;
+use crate::members::cell_tree_under;
 use crate::scalars::{flag_under, name_of};
 use pocket_types::{Field, Jv, Kind, Member, Name, Seq};
 use std::alloc::{AllocError, Global};
@@ -40,7 +40,7 @@ fn field_name_under(alloc: Global, members: &[Member]) -> Result<Option<Name>, A
     requires { AreShallow members.now }
     ensures { IfOk result (λ found. found ≡ field_name_at (codes "name") members.now) }
 {
-    match value_under(members, "name") {
+    match cell_tree_under(members, "name") {
         Some(Jv::Text(text)) => field_name(alloc, text.as_str()),
         _ => Ok(None),
     }

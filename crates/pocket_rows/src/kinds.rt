@@ -5,7 +5,7 @@ ghost use Rattle.pocket_rows.specs.FieldReading.{text_kind, number_kind, date_ki
 ghost use Rattle.pocket_types.specs.Sound.{may_be_unique};
 
 use crate::items::texts_of;
-use crate::members::value_under;
+use crate::members::cell_tree_under;
 use crate::scalars::{bound_under, count_under, date_under, flag_under, name_of};
 use pocket_types::{Jv, Kind, Member, Name, Seq, Text};
 use std::alloc::{AllocError, Global};
@@ -55,7 +55,7 @@ fn values_of(alloc: Global, members: &[Member]) -> Result<Option<Seq<Text>>, All
     requires { AreShallow members.now }
     ensures { IfOk result (λ found. found ≡ texts_at (codes "values") members.now) }
 {
-    match value_under(members, "values") {
+    match cell_tree_under(members, "values") {
         Some(Jv::List(trees)) => texts_of(alloc, trees.as_slice()),
         _ => Ok(None),
     }
@@ -81,7 +81,7 @@ fn target_of(alloc: Global, members: &[Member]) -> Result<Option<Name>, AllocErr
     requires { AreShallow members.now }
     ensures { IfOk result (λ found. found ≡ name_at (codes "collection") members.now) }
 {
-    match value_under(members, "collection") {
+    match cell_tree_under(members, "collection") {
         Some(Jv::Text(text)) => name_of(alloc, text.as_str()),
         _ => Ok(None),
     }
@@ -132,7 +132,7 @@ pub fn kind_of(alloc: Global, members: &[Member]) -> Result<Option<Kind>, AllocE
     requires { AreShallow members.now }
     ensures { IfOk result (λ found. found ≡ kind_at members.now) }
 {
-    match value_under(members, "type") {
+    match cell_tree_under(members, "type") {
         Some(Jv::Text(text)) => kind_named(alloc, text.as_str(), members),
         _ => Ok(None),
     }

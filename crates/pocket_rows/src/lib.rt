@@ -13,5 +13,8 @@ mod scalars;
 mod tokens;
 
 pub use collections::collection_of_row;
+pub use items::{ids_of, texts_of};
+pub use members::{members_in, value_under};
 pub use recs::rec_of_row;
+pub use scalars::{date_of_text, text_of};
 pub use tokens::token_of_row;

@@ -1,11 +1,13 @@
 // The members of the map that a row's value is, and what stands under a key.
 ghost use Rattle.std.specs.Prelude.{◌≡◌, ◌≢◌, ℕ, List, Some, IfOk, IfSome, MatchOption};
 ghost use Rattle.std.specs.Option.{option_copied};
+ghost use Rattle.pocket_types.specs.declared.json.Jv.{out-Jv};
 ghost use Rattle.pocket_types.specs.declared.json.Jv.TheOpen as jv;
 ghost use Rattle.pocket_types.specs.declared.json.Jv.TheViews.{roll-Jv};
 ghost use Rattle.pocket_types.specs.declared.json.Member.{Member};
 ghost use Rattle.pocket_ops.specs.Trees.{text_jv};
 ghost use Rattle.pocket_rows.specs.Cells.{AreShallow, IsNoTree, IsTreeOf, IsNoMap, MayBeMap, value_under, HasNoMoment, MayHaveMoment};
+ghost use Rattle.pocket_rows.specs.FieldReading.{members_in};
 ghost use Rattle.pocket_types.specs.Sound.{IsCellTree};
 
 use pocket_json::{JsonFault, read_jv};
@@ -40,6 +42,16 @@ fn map_members(tree: Jv) -> Option<Seq<Member>>
     }
 }
 
+/// The members of a map that is borrowed.
+pub fn members_in(tree: &Jv) -> Option<&[Member]>
+    ensures { option_copied result ≡ members_in (out-Jv tree.now) }
+{
+    match tree {
+        Jv::Map(members) => Some(members.as_slice()),
+        _ => None,
+    }
+}
+
 /// The members of the map that may have this text. None only where no map has it.
 pub fn members_of(alloc: Global, text: &str) -> Result<Option<Seq<Member>>, AllocError>
     ensures { IfOk result (λ found. MatchOption found (IsNoMap text.now) (λ members. MayBeMap text.now members)) }
@@ -52,9 +64,7 @@ pub fn members_of(alloc: Global, text: &str) -> Result<Option<Seq<Member>>, Allo
 
 /// The value under a key.
 pub fn value_under<'a>(members: &'a [Member], key: &str) -> Option<&'a Jv>
-    requires { AreShallow members.now }
-    ensures value { option_copied result ≡ value_under key.now members.now }
-    ensures shallow { IfSome result (λ tree. IsCellTree tree.now) }
+    ensures { option_copied result ≡ value_under key.now members.now }
 {
     for member in members {
         if member.key.as_str() == key {
@@ -64,6 +74,15 @@ pub fn value_under<'a>(members: &'a [Member], key: &str) -> Option<&'a Jv>
     None
 }
 
+/// The value under a key, where each value fits into a cell.
+pub fn cell_tree_under<'a>(members: &'a [Member], key: &str) -> Option<&'a Jv>
+    requires { AreShallow members.now }
+    ensures value { option_copied result ≡ value_under key.now members.now }
+    ensures shallow { IfSome result (λ tree. IsCellTree tree.now) }
+{
+    value_under(members, key)
+}
+
 /// The text under a key.
 pub fn text_under<'a>(members: &'a [Member], key: &str) -> Option<&'a str>
     requires { AreShallow members.now }
@@ -71,7 +90,7 @@ pub fn text_under<'a>(members: &'a [Member], key: &str) -> Option<&'a str>
         ((text : List ℕ) → value_under key.now members.now ≢ Some (text_jv text))
         (λ text. value_under key.now members.now ≡ Some (text_jv text.now)) }
 {
-    match value_under(members, key) {
+    match cell_tree_under(members, key) {
         Some(Jv::Text(text)) => Some(text.as_str()),
         _ => None,
     }

@@ -7,7 +7,7 @@ ghost use Rattle.pocket_rows.specs.RowReading.{KeepsNoRec, KeepsRec};
 ghost use Rattle.pocket_types.specs.Sound.{IsSoundCollection};
 
 use crate::cells::cell_of;
-use crate::members::{members_of, moment_under, value_under};
+use crate::members::{cell_tree_under, members_of, moment_under};
 use pocket_keeper::{KeptRow, id_in_rec_key, row_of_rec};
 use pocket_types::{Cell, Collection, Field, Id, Member, Rec, Seq};
 use std::alloc::{AllocError, Global};
@@ -17,7 +17,7 @@ fn cell_under(alloc: Global, field: &Field, members: &[Member]) -> Result<Option
     requires { AreShallow members.now }
     ensures { IfOk result (λ found. MatchOption found (HasNoCell field.now members.now) (λ cell. MayHaveCell field.now members.now cell)) }
 {
-    match value_under(members, field.name.as_str()) {
+    match cell_tree_under(members, field.name.as_str()) {
         Some(tree) => cell_of(alloc, &field.kind, tree),
         None => Ok(None),
     }

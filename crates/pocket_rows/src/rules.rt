@@ -6,7 +6,7 @@ ghost use Rattle.pocket_rows.specs.Cells.{AreShallow, value_under};
 ghost use Rattle.pocket_rows.specs.CollectionRows.{AreRulesUnder, HasNoRules, HasRules};
 ghost use Rattle.pocket_types.specs.Sound.{IsWritten};
 
-use crate::members::value_under;
+use crate::members::cell_tree_under;
 use pocket_types::{Jv, Member, Rule, Text};
 use std::alloc::{AllocError, Global};
 
@@ -53,7 +53,7 @@ fn rule_under(alloc: Global, members: &[Member], key: &str) -> Result<Option<Rul
         ((rule : Rule) → value_under key.now members.now ≢ Some (rule_jv rule))
         (λ rule. IsWritten rule × (value_under key.now members.now ≡ Some (rule_jv rule)))) }
 {
-    match value_under(members, key) {
+    match cell_tree_under(members, key) {
         Some(tree) => rule_of(alloc, tree),
         None => Ok(None),
     }

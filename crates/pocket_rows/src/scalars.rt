@@ -5,7 +5,7 @@ ghost use Rattle.pocket_ops.specs.Trees.{text_jv};
 ghost use Rattle.pocket_rows.specs.Cells.{AreShallow, IsNoDate, MayBeDate};
 ghost use Rattle.pocket_rows.specs.FieldReading.{flag_at, count_at, count_of, bound_at, date_at, may_be_date, name_of};
 
-use crate::members::value_under;
+use crate::members::cell_tree_under;
 use pocket_ops::date_read;
 use pocket_types::{Jv, Member, Moment, Name, NameFault};
 use std::alloc::{AllocError, Global};
@@ -52,7 +52,7 @@ pub fn flag_under(members: &[Member], key: &str) -> Option<bool>
     requires { AreShallow members.now }
     ensures { result ≡ flag_at key.now members.now }
 {
-    match value_under(members, key)? {
+    match cell_tree_under(members, key)? {
         Jv::Flag(flag) => Some(*flag),
         _ => None,
     }
@@ -71,7 +71,7 @@ pub fn count_under(members: &[Member], key: &str) -> Option<u32>
     requires { AreShallow members.now }
     ensures { result ≡ count_at key.now members.now }
 {
-    match value_under(members, key)? {
+    match cell_tree_under(members, key)? {
         Jv::Num(n) => count_of(*n),
         _ => None,
     }
@@ -83,7 +83,7 @@ pub fn bound_under(members: &[Member], key: &str) -> Option<Option<i64>>
     requires { AreShallow members.now }
     ensures { result ≡ bound_at key.now members.now }
 {
-    match value_under(members, key)? {
+    match cell_tree_under(members, key)? {
         Jv::Null => Some(None),
         Jv::Num(n) => Some(Some(*n)),
         _ => None,
@@ -96,7 +96,7 @@ pub fn date_under(members: &[Member], key: &str) -> Option<Option<Moment>>
     requires { AreShallow members.now }
     ensures { result ≡ date_at key.now members.now }
 {
-    match value_under(members, key)? {
+    match cell_tree_under(members, key)? {
         Jv::Text(text) => date_of_text(text.as_str()),
         _ => None,
     }
