@@ -74,7 +74,7 @@ zeros_fit (f ∷ fields) = (zero_fits f.kind, zeros_fit fields)
 pub layer_of : (tree : Jv) (x : Jv-F Jv Member) → out-Jv tree ≡ x → tree ≡ roll-Jv x
 layer_of tree x e = sym (roll-out-Jv tree) ∙ ap roll-Jv e
 
-text_fine : (tree : Jv) → IsCellTree tree → IfSome (text_of tree) IsUtf8
+pub text_fine : (tree : Jv) → IsCellTree tree → IfSome (text_of tree) IsUtf8
 text_fine tree h = by (out-Jv tree) refl
   where
     by : (x : Jv-F Jv Member) → out-Jv tree ≡ x → IfSome (text_in x) IsUtf8
@@ -138,10 +138,10 @@ date_fine t = if_some (length t == 0) (Some None) (option_map (λ m. Some m) (da
 
 -- ---- cells
 
-abbrev Any : {A : Type 0} → A → Type 0
+abbrev pub Any : {A : Type 0} → A → Type 0
 Any a = Unit {0}
 
-any : {A : Type 0} (o : Option A) → IfSome o Any
+pub any : {A : Type 0} (o : Option A) → IfSome o Any
 any None = tt
 any (Some a) = tt
 

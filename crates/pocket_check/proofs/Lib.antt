@@ -4,3 +4,8 @@ pub mod HeldLemmas
 pub mod GivenLemmas
 pub mod SentLemmas
 pub mod FaultlessLemmas
+pub mod JudgingLemmas
+mod SetLemmas
+mod ChangeLemmas
+mod ReadingLemmas
+mod LoopLemmas

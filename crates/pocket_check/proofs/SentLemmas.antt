@@ -25,14 +25,17 @@ use Rattle.pocket_types.specs.declared.requests.Caller.{Caller}
 use Rattle.pocket_types.specs.declared.requests.Sent.{Sent}
 use Rattle.pocket_rows.specs.Cells.{AreShallow, value_under}
 use Rattle.pocket_rows.specs.FieldReading.{members_in}
+use Rattle.pocket_rows.proofs.FieldSoundness.{value_shallow}
 use Rattle.pocket_rows.proofs.RecLemmas.{map_shallow}
 use Rattle.pocket_meaning.specs.Related.{sent_for}
 use Rattle.pocket_tables.specs.Worlds.{Suits, shape_of, type_of_kind}
 use Rattle.pocket_tables.proofs.KeyLemmas.{key_false, key_true}
-use Rattle.pocket_check.specs.Bodies.{Change, Becomes, Before, Behind, Without, cell_changed, change_under, field_sent, is_ignored, keys_of, list_keys, members_sent, modifier_keys, read_change, sent_by, sent_fields, sent_over, with_sent}
+use Rattle.pocket_check.specs.Bodies.{cell_changed, change_under, field_sent, is_ignored, keys_of, list_keys, members_sent, modifier_keys, read_change, sent_by, sent_fields, sent_over, with_sent}
 use Rattle.pocket_check.specs.Cells.{cell_of}
+use Rattle.pocket_check.specs.declared.change.Change.{Change}
+use Rattle.pocket_check.specs.declared.change.Change.TheVariants.{Becomes, Before, Behind, Without}
 use Rattle.pocket_check.specs.declared.fault.CheckFault.TheVariants.{BadBody, BadValue}
-use Rattle.pocket_check.proofs.AnswerLemmas.{both_ok, each_all, if_some, map_some, same_ok, some_all, was_there}
+use Rattle.pocket_check.proofs.AnswerLemmas.{both_ok, each_all, map_some, same_ok, some_all, was_there}
 use Rattle.pocket_check.proofs.GivenLemmas.{AlmostFits, almost, cell_fine, layer_of}
 use Rattle.pocket_check.proofs.IdLemmas.{HasIdForm}
 use Rattle.pocket_check.proofs.HeldLemmas.{held_once, held_without}
@@ -154,12 +157,6 @@ asked_keys false f = keys_fine f
 
 -- ---- what stands under keys
 
-value_shallow : (key : List ℕ) (ms : List Member) → AreShallow ms → IfSome (value_under key ms) IsCellTree
-value_shallow key [] h = tt
-value_shallow key (m ∷ ms) h =
-    if_some (bytes_eq m.key key) (Some m.value) (value_under key ms) IsCellTree (All-head (λ m. IsCellTree m.value) m ms h)
-    (value_shallow key ms (All-tail (λ m. IsCellTree m.value) m ms h))
-
 -- a change that the field may have, by a tree that fits into a cell
 abbrev IsAsked : Field → Change × Jv → Type 0
 IsAsked f x = MayChange f.kind x.0 × IsCellTree x.1
@@ -268,7 +265,7 @@ cells_fine (f ∷ fields) (c ∷ cells) (x ∷ found) sent differ fit h same =
 -- ---- bodies
 
 -- the members of a body of the profile fit into cells
-members_shallow : (body : Jv) (ms : List Member) → IsProfiled body → members_sent body ≡ Ok ms → AreShallow ms
+pub members_shallow : (body : Jv) (ms : List Member) → IsProfiled body → members_sent body ≡ Ok ms → AreShallow ms
 members_shallow body ms profile e = by (out-Jv body) refl (was_there (members_in (out-Jv body)) BadBody ms e)
   where
     by : (x : Jv-F Jv Member) → out-Jv body ≡ x → members_in x ≡ Some ms → AreShallow ms

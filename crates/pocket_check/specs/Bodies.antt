@@ -1,5 +1,5 @@
 -- The fields that a body sends, with the cells that they will have.
-use Rattle.std.specs.Prelude.{ℕ, ◌+ℤ◌, ◌-ℤ◌, Bool, not, ◌&&◌, List, [], ◌∷◌, ◌++◌, map, filter, filter_map, fold, zip, codes, Option, Some, None, Result, Ok, Err, option_map, option_and_then, if◌then◌else◌}
+use Rattle.std.specs.Prelude.{ℕ, ◌+ℤ◌, ◌-ℤ◌, Bool, not, ◌&&◌, List, [], ◌∷◌, ◌++◌, map, filter, filter_map, fold, zip, codes, Option, Some, None, Result, Ok, Err, option_map, if◌then◌else◌}
 use Rattle.std.specs.List.{list_any}
 use Rattle.std.specs.Option.{option_map_or}
 use Rattle.std.specs.Str.{bytes_eq}
@@ -24,17 +24,12 @@ use Rattle.pocket_rows.specs.Cells.{value_under}
 use Rattle.pocket_rows.specs.FieldReading.{members_in}
 use Rattle.pocket_meaning.specs.Related.{sent_for}
 use Rattle.pocket_check.specs.Cells.{cell_of, is_null, text_of, zero_cells}
+use Rattle.pocket_check.specs.declared.change.Change.{Change}
+use Rattle.pocket_check.specs.declared.change.Change.TheVariants.{Becomes, Before, Behind, Without}
 use Rattle.pocket_check.specs.declared.fault.CheckFault.{CheckFault}
 use Rattle.pocket_check.specs.declared.fault.CheckFault.TheVariants.{BadBody, BadValue}
 
 -- ---- keys
-
--- what a key makes of a cell: the value given, or its items before, behind or out of those there, or a number more or less
-pub data Change : Type 0 where
-  Becomes : Change
-  Before : Change
-  Behind : Change
-  Without : Change
 
 abbrev pub list_keys : List ℕ → List (List ℕ × Change)
 list_keys name = (codes "+" ++ name, Before) ∷ (name ++ codes "+", Behind) ∷ (name ++ codes "-", Without) ∷ []
