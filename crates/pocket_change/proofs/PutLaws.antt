@@ -1,17 +1,14 @@
 -- What is created and updated may be put.
-use Rattle.std.proofs.Common.{◌≡◌, ◌≤◌, ℕ, Bool, true, false, nat_lt, List, [], ◌∷◌, map, find, is_some, slice_index, Option, Some, None, Ok, IfSome, IsTrue, Contains, option_map, cond, refl, sym, ap, subst, ◌∙◌, arith}
-use Rattle.std.specs.Option.{option_map_or}
+use Rattle.std.proofs.Common.{◌≡◌, ◌≤◌, ℕ, Bool, true, false, nat_lt, List, [], ◌∷◌, find, is_some, slice_index, Option, Some, None, Ok, IfSome, IsTrue, option_map, refl, sym, ap, subst, ◌∙◌, arith}
 use Rattle.std.specs.Str.{bytes_eq}
-use Rattle.std.proofs.lemmas.List.Elements.{All-cons, All-contains, All-nil, All-weaker}
-use Rattle.std.proofs.lemmas.Option.{none-some, same_Some}
+use Rattle.std.proofs.lemmas.List.Elements.{All-contains, All-weaker}
 use Rattle.pocket_types.specs.Chains.{or_refuse, refuse, refuse_as}
 use Rattle.pocket_types.specs.Kinds.{target_of}
 use Rattle.pocket_types.specs.Names.{IsMoment, is_id}
 use Rattle.pocket_types.specs.Profile.{IsProfiled}
 use Rattle.pocket_types.specs.Sound.{IsSoundCollection, IsSoundRec}
 use Rattle.pocket_types.specs.Within.{IsShelf, LeadsWithin}
-use Rattle.pocket_types.specs.World.{rec_of, shelf_named}
-use Rattle.pocket_types.specs.declared.deltas.RecChange.{RecChange}
+use Rattle.pocket_types.specs.World.{shelf_named}
 use Rattle.pocket_types.specs.declared.faults.FieldFault.{FieldFault}
 use Rattle.pocket_types.specs.declared.faults.Limit.{Limit}
 use Rattle.pocket_types.specs.declared.faults.Limit.TheVariants as limit
@@ -29,11 +26,10 @@ use Rattle.pocket_types.specs.declared.requests.Sent.{Sent}
 use Rattle.pocket_types.specs.declared.world.Shelf.{Shelf}
 use Rattle.pocket_types.specs.declared.world.World.{World}
 use Rattle.pocket_ops.specs.Lengths.{row_len}
-use Rattle.pocket_tables.specs.Deltas.{FitsWorld, rec_change}
-use Rattle.pocket_tables.specs.Keyed.{AtDistinctKeys}
-use Rattle.pocket_tables.specs.Laws.{ChangesRecords, DeltasAreMadeAtOnce, HasSoundParts, RecordChangesFit, ShelvesAreFound}
+use Rattle.pocket_tables.specs.Deltas.{FitsWorld}
+use Rattle.pocket_tables.specs.Laws.{DeltasAreMadeAtOnce, RecordChangesFit, ShelvesAreFound}
 use Rattle.pocket_tables.specs.Reads.{bytes_of, records_of}
-use Rattle.pocket_tables.specs.Worlds.{HasShape, IsTabled, MayStand, collection_at, rec_at, shapes_of, shelf_name}
+use Rattle.pocket_tables.specs.Worlds.{IsTabled, MayStand, collection_at, rec_at, shelf_name}
 use Rattle.pocket_tables.proofs.KeyLemmas.{key_same}
 use Rattle.pocket_tables.proofs.WorldLemmas.{collection_found}
 use Rattle.pocket_gate.specs.Rules.{verdict}
@@ -48,60 +44,17 @@ use Rattle.pocket_change.specs.Limits.{passed_limit}
 use Rattle.pocket_change.specs.Puts.{HasCollection, IsRewritten, MayBePut}
 use Rattle.pocket_change.specs.declared.fault.ChangeFault.TheVariants as fault
 use Rattle.pocket_change.proofs.IdLemmas.{new_form}
+use Rattle.pocket_change.proofs.DeltaLemmas.{changes_one}
+use Rattle.pocket_change.proofs.StandingLemmas.{rec_there, shelf_found, sound_there}
 
 -- ---- where a collection stands
 
--- the shelf on which a collection stands
-record IsOn (w : World) (c : Collection) (s : Shelf) : Type 0 where
-  found : shelf_named c.name w.shelves ≡ Some s
-  there : Contains w.shelves s
-  same : s.collection ≡ c
-
--- a collection that is found stands on a shelf of its name
-shelf_found : (w : World) (name : Name) (c : Collection) → collection_at w name ≡ Some c → (s : Shelf) × (shelf_named name w.shelves ≡ Some s) × (s.collection ≡ c)
-shelf_found w name c e = by (shelf_named name w.shelves) (sym (collection_found w.shelves name) ∙ e)
-  where
-    by : (o : Option Shelf) → option_map (λ s. s.collection) o ≡ Some c → (s : Shelf) × (o ≡ Some s) × (s.collection ≡ c)
-    by None q = absurd (none-some c q)
-    by (Some s) q = (s, refl, same_Some s.collection c q)
-
-stands_on : (w : World) (c : Collection) → HasCollection w c → (s : Shelf) × IsOn w c s
-stands_on w c h =
-    let x = shelf_found w c.name c h.there in
-    (x.0, record { found = x.1; there = (found_there (λ s. bytes_eq s.collection.name c.name) w.shelves x.0 x.1).0; same = x.2 })
-
-parts_of : (w : World) (c : Collection) (s : Shelf) → HasCollection w c → IsOn w c s → HasSoundParts s
-parts_of w c s h on = All-contains HasSoundParts w.shelves s h.parts on.there
-
 sound_collection : (w : World) (c : Collection) → HasCollection w c → IsSoundCollection c
-sound_collection w c h = let x = stands_on w c h in subst IsSoundCollection x.1.same (parts_of w c x.0 h x.1).collection
+sound_collection w c h = sound_there w c h.parts h.there
 
 -- a record that stands there is sound, and bears the id by which it is found
 old_sound : (w : World) (c : Collection) (id : Id) (old : Rec) → HasCollection w c → rec_at w c.name id ≡ Some old → IsSoundRec c old × (old.id ≡ id)
-old_sound w c id old h e =
-    let x = stands_on w c h in
-    let found : rec_of id x.0.recs ≡ Some old = ap (λ o. rec_of id (option_map_or (λ s. s.recs) o [])) (sym x.1.found) ∙ e in
-    let rec = found_there (λ r. bytes_eq r.id id) x.0.recs old found in
-    (subst (λ k. IsSoundRec k old) x.1.same (All-contains (IsSoundRec x.0.collection) x.0.recs old (parts_of w c x.0 h x.1).recs rec.0), key_same old.id id rec.1)
-
--- ---- the delta
-
-change_of : Collection → Rec → RecChange
-change_of c r = record { collection = c.name; id = r.id; after = Some r }
-
-changes_one : (w : World) (c : Collection) (r : Rec) → collection_at w c.name ≡ Some c → HasShape (shapes_of c) r → ChangesRecords (puts c.name r) w
-unfolding change_of
-changes_one w c r there shape = record {
-  shelves = refl;
-  ids = λ name. distinct name (bytes_eq c.name name);
-  numbered = All-cons (λ x. IfSome x.after (λ s. s.id ≡ x.id)) (change_of c r) [] refl (All-nil (λ x. IfSome x.after (λ s. s.id ≡ x.id)));
-  shaped = All-cons (λ x. IfSome x.after (MayStand (collection_at w x.collection))) (change_of c r) [] (subst (λ o. MayStand o r) (sym there) shape)
-      (All-nil (λ x. IfSome x.after (MayStand (collection_at w x.collection))));
-}
-  where
-    distinct : (name : Name) (b : Bool) → AtDistinctKeys (map rec_change (cond b (record { collection = c.name; id = r.id; after = Some r } ∷ []) []))
-    distinct name true = (refl, tt)
-    distinct name false = tt
+old_sound w c id old h e = rec_there w c id old h.parts h.there e
 
 -- ---- refusals that didn't come
 
@@ -185,7 +138,7 @@ module _ (records_fit : RecordChangesFit) (at_once : DeltasAreMadeAtOnce) (shelv
   may_be_put : (w : World) (who : Caller) (c : Collection) (old : List Cell) (body : Jv) (fields : List Sent) (r : Rec) → HasCollection w c → IsSentOver who c old body fields r
       → IsTrue (is_id r.id) → IsMoment r.created → IsMoment r.updated → IsChecked w c r → MayBePut w c r
   may_be_put w who c old body fields r h is id created updated checked =
-      let fits = records_fit (puts c.name r) w (changes_one w c r h.there (have_shape who c old body fields r is)) in
+      let fits = records_fit (puts c.name r) w (changes_one w c.name r (subst (λ o. MayStand o r) (sym h.there) (have_shape who c old body fields r is))) in
       let tabled = (at_once (puts c.name r) w h.tabled fits).tabled in
       let limits = within (world_with w c r) c r checked.limits in
       record {

@@ -1,5 +1,5 @@
 -- Creations and updates: what becomes of a record, or the first refusal.
-use Rattle.std.specs.Prelude.{ℕ, ℤ, List, [], ◌∷◌, is_some, slice_index, unwrap_or, Option, Some, None, Result, Ok, Err, option_map}
+use Rattle.std.specs.Prelude.{ℕ, ℤ, List, [], ◌∷◌, is_some, slice_index, unwrap_or, Option, Some, None, Result, Ok, Err}
 use Rattle.std.specs.Option.{option_map_or}
 use Rattle.pocket_types.specs.Chains.{◌>>=◌, or_refuse, refuse, refuse_as}
 use Rattle.pocket_types.specs.Names.{made_id}

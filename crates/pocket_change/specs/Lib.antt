@@ -1,4 +1,5 @@
 pub mod Answers
 pub mod Limits
 pub mod Changes
+pub mod Plans
 pub mod Puts

@@ -2,7 +2,7 @@
 use Rattle.std.specs.Prelude.{◌≡◌, ◌≤◌, ℕ, List, Option, Some, IfSome, Ok, All}
 use Rattle.pocket_types.specs.Names.{IsMoment}
 use Rattle.pocket_types.specs.Profile.{IsProfiled}
-use Rattle.pocket_types.specs.Sound.{IsSoundCollection, IsSoundRec}
+use Rattle.pocket_types.specs.Sound.{IsSoundRec}
 use Rattle.pocket_types.specs.Within.{AllHoldWithin, LeadsWithin}
 use Rattle.pocket_types.specs.declared.ids.Id.{Id}
 use Rattle.pocket_types.specs.declared.json.Jv.{Jv}
@@ -14,7 +14,7 @@ use Rattle.pocket_ops.specs.Lengths.{row_len}
 use Rattle.pocket_tables.specs.Deltas.{FitsWorld}
 use Rattle.pocket_tables.specs.Laws.{HasSoundParts}
 use Rattle.pocket_tables.specs.Reads.{bytes_of, records_of}
-use Rattle.pocket_tables.specs.Worlds.{IsTabled, collection_at, rec_at}
+use Rattle.pocket_tables.specs.Worlds.{IsTabled, collection_at}
 use Rattle.pocket_change.specs.Changes.{created, puts, updated, world_with}
 
 -- a record that may be put into a world: it is sound by itself and in its place, its delta fits, and no limit is passed with it
