@@ -1,7 +1,7 @@
 -- The laws of puts.
-use Rattle.pocket_putting.specs.Laws.{PutsKeepRows, PutsKeepSound, TextsDecide}
-use Rattle.pocket_putting.proofs.PutLemmas.{put_collections, put_keeps_sound}
-use Rattle.pocket_putting.proofs.PutRowLemmas.{put_rows, text_decides}
+use Rattle.pocket_states.specs.Laws.{PutsKeepRows, PutsKeepSound, TextsDecide}
+use Rattle.pocket_states.proofs.PutLemmas.{put_collections, put_keeps_sound}
+use Rattle.pocket_states.proofs.PutRowLemmas.{put_rows, text_decides}
 
 pub keep_sound : PutsKeepSound
 keep_sound s c r p = record {

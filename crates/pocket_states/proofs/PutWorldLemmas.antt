@@ -13,17 +13,18 @@ use Rattle.pocket_types.specs.declared.records.Collection.{Collection}
 use Rattle.pocket_types.specs.declared.records.Rec.{Rec}
 use Rattle.pocket_types.specs.declared.world.Shelf.{Shelf}
 use Rattle.pocket_types.specs.declared.world.World.{World}
-use Rattle.pocket_store.specs.SoundStates.{IsSoundRecIn, IsSoundShelf}
+use Rattle.pocket_store.specs.SoundStates.{IsSoundRecIn, IsSoundShelf, IsSoundWorld}
 use Rattle.pocket_store.proofs.ListLemmas.{IsIn, all_from_in, all_in, contains_from_in, in_from_contains, in_map, in_map_back}
 use Rattle.pocket_tables.specs.Deltas.{recs_after, world_after}
 use Rattle.pocket_tables.specs.Keyed.{find_key, put_all, put_at}
 use Rattle.pocket_tables.specs.Laws.{HasSoundParts}
-use Rattle.pocket_tables.specs.Worlds.{collection_at, id_of, name_of, recs_at, shelf_name}
+use Rattle.pocket_tables.specs.Worlds.{IsTabled, collection_at, id_of, name_of, recs_at, shelf_name}
+use Rattle.pocket_tables.proofs.LawLemmas.{tabled_from_sound}
 use Rattle.pocket_tables.proofs.DrawerLemmas.{rec_changes-one}
 use Rattle.pocket_tables.proofs.KeyLemmas.{found_holds, key_same, key_true}
 use Rattle.pocket_tables.proofs.WorldLemmas.{collection_found, each_found, shelf_by, unfolding_world_after}
 use Rattle.pocket_change.specs.Changes.{puts, world_with}
-use Rattle.pocket_putting.proofs.PutListLemmas.{put_from, put_has, put_keeps}
+use Rattle.pocket_states.proofs.PutListLemmas.{put_from, put_has, put_keeps}
 
 -- a sound shelf has sound parts
 pub sound_parts : (w : World) (s : Shelf) → IsSoundShelf w s → HasSoundParts s
@@ -32,6 +33,10 @@ sound_parts w s h = record {
   recs = All-weaker (IsSoundRecIn w s.collection) (IsSoundRec s.collection) (λ r sound. sound.alone) s.recs h.recs;
   rising = h.rising;
 }
+
+-- a sound world can be put into tables
+pub sound_tabled : (w : World) → IsSoundWorld w → IsTabled w
+sound_tabled w h = tabled_from_sound w h.rising (All-weaker (IsSoundShelf w) HasSoundParts (sound_parts w) w.shelves h.shelves)
 
 -- ---- the shelves afterwards
 

@@ -1,5 +1,5 @@
 // What follows from the definitions. Each law is a function without a body of its own.
-ghost use Rattle.pocket_putting.specs.Laws.{PutsKeepRows, PutsKeepSound, TextsDecide};
+ghost use Rattle.pocket_states.specs.Laws.{PutsKeepRows, PutsKeepSound, TextsDecide};
 
 /// A sound state with a record that may be put into one of its collections is sound, and its collections are as before.
 #[tactic(auto, using(crate::proofs::PutLaws::keep_sound))]

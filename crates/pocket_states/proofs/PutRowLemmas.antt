@@ -31,12 +31,11 @@ use Rattle.pocket_tables.proofs.LawLemmas.{at_once, same_world}
 use Rattle.pocket_tables.proofs.WorldLemmas.{IsOrdered, each_found, ordered_after, ordered_from}
 use Rattle.pocket_change.specs.Changes.{puts, world_with}
 use Rattle.pocket_change.specs.Puts.{MayBePut}
-use Rattle.pocket_putting.specs.Putting.{row_stands, state_with}
-use Rattle.pocket_core.specs.States.{IsSoundState, MachineState, rows_of, stored_in}
-use Rattle.pocket_core.proofs.OpeningLemmas.{sound_tabled}
-use Rattle.pocket_putting.proofs.PutLemmas.{put_keeps_sound}
-use Rattle.pocket_putting.proofs.PutListLemmas.{put_from, put_has, put_keeps}
-use Rattle.pocket_putting.proofs.PutWorldLemmas.{IsPlace, put_then, rec_before, rec_then, shelf_before, shelf_then, shelf_there, sound_parts, then_of}
+use Rattle.pocket_states.specs.Putting.{row_stands, state_with}
+use Rattle.pocket_states.specs.States.{IsSoundState, MachineState, rows_of, stored_in}
+use Rattle.pocket_states.proofs.PutLemmas.{put_keeps_sound}
+use Rattle.pocket_states.proofs.PutListLemmas.{put_from, put_has, put_keeps}
+use Rattle.pocket_states.proofs.PutWorldLemmas.{IsPlace, put_then, rec_before, rec_then, shelf_before, shelf_then, shelf_there, sound_parts, sound_tabled, then_of}
 
 -- ---- where rows stand
 

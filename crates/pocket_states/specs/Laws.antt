@@ -9,8 +9,8 @@ use Rattle.pocket_keeper.specs.declared.rows.KeptRow.{KeptRow}
 use Rattle.pocket_store.specs.Stores.{HaveSameRows}
 use Rattle.pocket_tables.specs.Worlds.{collection_at}
 use Rattle.pocket_change.specs.Puts.{MayBePut}
-use Rattle.pocket_core.specs.States.{IsSoundState, MachineState, rows_of}
-use Rattle.pocket_putting.specs.Putting.{row_stands, state_with}
+use Rattle.pocket_states.specs.States.{IsSoundState, MachineState, rows_of}
+use Rattle.pocket_states.specs.Putting.{row_stands, state_with}
 
 -- a record of a collection of a sound state, which may be put there
 pub record IsPutting (s : MachineState) (c : Collection) (r : Rec) : Type 0 where

@@ -8,7 +8,7 @@ use Rattle.pocket_types.specs.declared.world.World.{World}
 use Rattle.pocket_keeper.specs.Texts.{rec_row}
 use Rattle.pocket_tables.specs.Worlds.{rec_at}
 use Rattle.pocket_change.specs.Changes.{world_with}
-use Rattle.pocket_core.specs.States.{MachineState}
+use Rattle.pocket_states.specs.States.{MachineState}
 
 -- the state with a record put into its world
 abbrev pub state_with : MachineState → Collection → Rec → MachineState

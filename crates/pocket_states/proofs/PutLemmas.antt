@@ -31,22 +31,20 @@ use Rattle.pocket_tables.proofs.KeyLemmas.{rises-put_at}
 use Rattle.pocket_tables.proofs.WorldLemmas.{collections_then, ordered_from}
 use Rattle.pocket_change.specs.Changes.{puts, world_with}
 use Rattle.pocket_change.specs.Puts.{HasCollection, MayBePut}
-use Rattle.pocket_putting.specs.Putting.{state_with}
-use Rattle.pocket_core.specs.States.{IsSoundState, IsThere, MachineState}
-use Rattle.pocket_core.proofs.OpeningLemmas.{sound_tabled}
-use Rattle.pocket_putting.proofs.PutWorldLemmas.{has_rec_then, is_shelf_then, rec_before, shelf_before, shelf_there, shelves_then, sound_parts, then_of}
+use Rattle.pocket_states.specs.Putting.{state_with}
+use Rattle.pocket_states.specs.States.{IsSoundState, IsThere, MachineState}
+use Rattle.pocket_states.proofs.PutWorldLemmas.{has_rec_then, is_shelf_then, rec_before, shelf_before, shelf_there, shelves_then, sound_parts, sound_tabled, then_of}
 
--- ---- the collection of a sound state
+-- ---- the collection of a sound world
 
-pub has_collection : (s : MachineState) (c : Collection) → IsSoundState s → collection_at s.world c.name ≡ Some c → HasCollection s.world c
-has_collection s c sound there =
-    let w = s.world in
+pub has_collection : (w : World) (c : Collection) → IsSoundWorld w → collection_at w c.name ≡ Some c → HasCollection w c
+has_collection w c sound there =
     let at = shelf_there w c there in
     record {
-      tabled = sound_tabled w sound.kept.world;
-      parts = All-weaker (IsSoundShelf w) HasSoundParts (sound_parts w) w.shelves sound.kept.world.shelves;
+      tabled = sound_tabled w sound;
+      parts = All-weaker (IsSoundShelf w) HasSoundParts (sound_parts w) w.shelves sound.shelves;
       there = there;
-      targets = subst (λ d. All (LeadsWithin w) d.fields) (sym at.2) (all_in (IsSoundShelf w) w.shelves at.0 sound.kept.world.shelves at.1).targets;
+      targets = subst (λ d. All (LeadsWithin w) d.fields) (sym at.2) (all_in (IsSoundShelf w) w.shelves at.0 sound.shelves at.1).targets;
     }
 
 -- ---- the state with a record put

@@ -1,5 +1,0 @@
-use Rattle.pocket_putting.proofs.PutLaws.{keep_rows}
-use Rattle.pocket_putting.proofs.laws.puts_change_their_row_alone.Goals as goal
-
-pub returns : goal.returns
-returns c = keep_rows
