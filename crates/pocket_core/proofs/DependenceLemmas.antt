@@ -64,6 +64,7 @@ use Rattle.pocket_read.specs.declared.page.Page.{Page}
 use Rattle.pocket_read.specs.declared.terms.SortTerm.{SortTerm}
 use Rattle.pocket_api.specs.Asks.{bare_ask}
 use Rattle.pocket_api.specs.Refusals.{because, no_data, refusal_jv}
+use Rattle.pocket_api.specs.declared.call.Call.{Call}
 use Rattle.pocket_api.specs.declared.call.Call.TheVariants as call
 use Rattle.pocket_api.specs.declared.call.ListQuery.{ListQuery}
 use Rattle.pocket_api.specs.declared.call.Shown.{Shown}
@@ -73,13 +74,13 @@ use Rattle.pocket_api.specs.declared.work.Work.{Work}
 use Rattle.pocket_core.specs.Answers.{after, answer_of, call_outcome, work_outcome}
 use Rattle.pocket_core.specs.Laws.{ListsTellWhatIsSeen, SeesTheSame, ViewsTellWhatIsSeen, listed, listed_in, told}
 use Rattle.pocket_core.specs.Lists.{list_outcome, page_jv, page_or_refusal, rec_trees, shown_page}
-use Rattle.pocket_core.specs.Outcomes.{Empty, Enters, Outcome, Shows, Tree}
+use Rattle.pocket_core.specs.Outcomes.{Empty, Enters, IsReading, Outcome, Shows, Tree}
 use Rattle.pocket_core.specs.Showing.{cut_by, display_of, displayed, shown_of}
-use Rattle.pocket_core.specs.States.{IsSoundState, MachineState, sender}
+use Rattle.pocket_states.specs.States.{IsSoundState, MachineState, sender}
 use Rattle.pocket_core.specs.Views.{admitted, rec_named_outcome, rec_outcome, view_outcome}
 use Rattle.pocket_core.specs.declared.showing.Display.{Display}
-use Rattle.pocket_core.proofs.OpeningLemmas.{sound_tabled}
-use Rattle.pocket_core.proofs.ReadingLemmas.{answer_is}
+use Rattle.pocket_states.proofs.PutWorldLemmas.{sound_tabled}
+use Rattle.pocket_core.proofs.ReadingLemmas.{answer_is, list_reads, view_reads}
 
 -- ---- rules of a sound world
 
@@ -468,14 +469,21 @@ module _ (s t : MachineState) (work : Work) (sound : IsSoundState s) (other : Is
   one_seen : seen_world s.world (ask_of (sender s work)) ≡ seen_world t.world (ask_of (sender s work))
   one_seen = sees.seen ∙ ap (λ who. seen_world t.world (ask_of who)) (sym sees.caller)
 
+  -- the outcome of the first state's sender for a call
+  abbrev first_outcome : Call → Outcome
+  first_outcome k = call_outcome s (ask_of (sender s work)) work.draw.words k
+
+  abbrev second_outcome : Call → Outcome
+  second_outcome k = call_outcome t (ask_of (sender t work)) work.draw.words k
+
   -- what is told of a view is the same
   pub views_told : (at place : ℕ) (target : Target) (asked : Shown) → work.call ≡ call.View target asked
       → told (answer_of at (work_outcome s work)) ≡ told (answer_of place (work_outcome t work))
   views_told at place target asked is =
-      ap (λ k. told (answer_of at (call_outcome s.world (ask_of (sender s work)) k))) is
+      ap (λ k. told (answer_of at (first_outcome k))) is
       ∙ views_agree s.world t.world (ask_of (sender s work)) sound.kept.world other.kept.world sees.collections one_seen at place target asked
       ∙ ap (λ who. told (answer_of place (view_outcome t.world (ask_of who) target asked))) sees.caller
-      ∙ ap (λ k. told (answer_of place (call_outcome t.world (ask_of (sender t work)) k))) (sym is)
+      ∙ ap (λ k. told (answer_of place (second_outcome k))) (sym is)
 
   -- and of a list, where the same records are on it
   pub lists_told : (at place : ℕ) (name : List ℕ) (query : ListQuery) → work.call ≡ call.List name query
@@ -485,21 +493,34 @@ module _ (s t : MachineState) (work : Work) (sound : IsSoundState s) (other : Is
       let one_listed = lists ∙ ap (λ who. listed t.world (ask_of who) name) (sym sees.caller) in
       told_anywhere at place (work_outcome s work)
       ∙ ap (λ o. told (answer_of place o))
-      (ap (call_outcome s.world (ask_of (sender s work))) is
+      (ap first_outcome is
       ∙ lists_agree s.world t.world (ask_of (sender s work)) sound.kept.world other.kept.world sees.collections one_seen name query one_listed
       ∙ ap (λ who. list_outcome t.world (ask_of who) name query) sees.caller
-      ∙ ap (call_outcome t.world (ask_of (sender t work))) (sym is))
+      ∙ ap second_outcome (sym is))
 
 -- ---- answers
 
+-- a work that views or lists enters nothing
+module _ (s : MachineState) (work : Work) where
+  abbrev asks : Ask
+  asks = bare_ask (sender s work) work
+
+  pub view_is_reading : (target : Target) (asked : Shown) → work.call ≡ call.View target asked → IsReading (work_outcome s work)
+  view_is_reading target asked is =
+      subst (λ k. IsReading (call_outcome s asks work.draw.words k)) (sym is) (view_reads s.world asks target asked)
+
+  pub list_is_reading : (name : List ℕ) (query : ListQuery) → work.call ≡ call.List name query → IsReading (work_outcome s work)
+  list_is_reading name query is =
+      subst (λ k. IsReading (call_outcome s asks work.draw.words k)) (sym is) (list_reads s.world asks name query)
+
 pub views_tell : ViewsTellWhatIsSeen
 views_tell opening other history others work target asked sound sound_other is sees =
-    ap told (answer_is opening history work)
+    ap told (answer_is opening history work (view_is_reading (after opening history) work target asked is))
     ∙ views_told (after opening history) (after other others) work sound sound_other sees (length history) (length others) target asked is
-    ∙ sym (ap told (answer_is other others work))
+    ∙ sym (ap told (answer_is other others work (view_is_reading (after other others) work target asked is)))
 
 pub lists_tell : ListsTellWhatIsSeen
 lists_tell opening other history others work name query sound sound_other is same =
-    ap told (answer_is opening history work)
+    ap told (answer_is opening history work (list_is_reading (after opening history) work name query is))
     ∙ lists_told (after opening history) (after other others) work sound sound_other same.sees (length history) (length others) name query is same.lists
-    ∙ sym (ap told (answer_is other others work))
+    ∙ sym (ap told (answer_is other others work (list_is_reading (after other others) work name query is)))

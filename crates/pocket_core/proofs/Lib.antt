@@ -1,5 +1,13 @@
+pub mod CourseLemmas
 pub mod DependenceLemmas
+pub mod EnterLemmas
+pub mod HandleLemmas
+pub mod HistoryLemmas
+pub mod KeepLemmas
 pub mod ListLemmas
 pub mod OpeningLemmas
+pub mod PlanLemmas
 pub mod ReadingLemmas
+pub mod StateLemmas
+pub mod StatusLemmas
 pub mod ViewLemmas

@@ -1,33 +1,15 @@
 -- What is opened from rows.
 use Rattle.std.proofs.Common.{◌≡◌, ℕ, List, [], Option, Some, None, refl, subst, arith}
 use Rattle.std.specs.Prelude.{IfSome}
-use Rattle.std.proofs.lemmas.List.Elements.{All-weaker}
-use Rattle.pocket_types.specs.declared.world.Shelf.{Shelf}
-use Rattle.pocket_types.specs.declared.world.World.{World}
-use Rattle.pocket_types.specs.Sound.{IsSoundRec}
 use Rattle.pocket_keeper.specs.declared.rows.KeptRow.{KeptRow}
-use Rattle.pocket_store.specs.SoundStates.{IsSoundRecIn, IsSoundShelf, IsSoundStored, IsSoundWorld}
+use Rattle.pocket_store.specs.SoundStates.{IsSoundStored}
 use Rattle.pocket_store.specs.Stores.{IsFaultOf, IsStoreOf}
 use Rattle.pocket_store.specs.declared.stored.Stored.{Stored}
 use Rattle.pocket_store.specs.declared.stored.StoreFault.{StoreFault}
 use Rattle.pocket_store.specs.declared.stored.StoreFault.TheVariants as store
-use Rattle.pocket_tables.specs.Laws.{HasSoundParts}
-use Rattle.pocket_tables.specs.Worlds.{IsTabled}
-use Rattle.pocket_tables.proofs.LawLemmas.{tabled_from_sound}
 use Rattle.pocket_core.specs.Faults.{start_fault}
 use Rattle.pocket_core.specs.Opening.{IfTold, IsOpened, IsStartFault}
-use Rattle.pocket_core.specs.States.{IsSoundState, opened_state}
-
--- a sound world can be put into tables
-sound_parts : (w : World) (s : Shelf) → IsSoundShelf w s → HasSoundParts s
-sound_parts w s h = record {
-  collection = h.alone;
-  recs = All-weaker (IsSoundRecIn w s.collection) (IsSoundRec s.collection) (λ r sound. sound.alone) s.recs h.recs;
-  rising = h.rising;
-}
-
-pub sound_tabled : (w : World) → IsSoundWorld w → IsTabled w
-sound_tabled w h = tabled_from_sound w h.rising (All-weaker (IsSoundShelf w) HasSoundParts (sound_parts w) w.shelves h.shelves)
+use Rattle.pocket_states.specs.States.{IsSoundState, opened_state}
 
 -- a sound store is a sound state without clients
 pub opened_sound : (stored : Stored) (admin : List ℕ) → IsSoundStored stored → IsSoundState (opened_state stored admin)

@@ -1,15 +1,16 @@
 -- What the abstract machine answers, and what it becomes.
-use Rattle.std.specs.Prelude.{◌≡◌, ℕ, ◌+◌, nat_le, nat_lt, Bool, true, false, ◌&&◌, ◌||◌, List, [], ◌∷◌, ◌++◌, fold, length, Option, Some, None, Ok, Err, IsTrue}
+use Rattle.std.specs.Prelude.{◌≡◌, ◌⊎◌, ℕ, ◌+◌, nat_le, nat_lt, Bool, true, false, ◌&&◌, ◌||◌, List, [], ◌∷◌, ◌++◌, fold, length, Option, Some, None, Ok, Err, IsTrue}
 use Rattle.pocket_types.specs.Chains.{◌>>=◌, refuse}
 use Rattle.pocket_types.specs.Json.{printed}
 use Rattle.pocket_types.specs.declared.json.Jv.{Jv}
 use Rattle.pocket_types.specs.declared.requests.Ask.{Ask}
-use Rattle.pocket_types.specs.declared.world.World.{World}
+use Rattle.pocket_ops.specs.Lengths.{held}
 use Rattle.pocket_api.specs.Asks.{bare_ask}
-use Rattle.pocket_api.specs.Refusals.{because, refusal_jv}
+use Rattle.pocket_api.specs.Refusals.{Refusal, because, refusal_jv}
+use Rattle.pocket_core.specs.Changing.{create_outcome, update_outcome}
 use Rattle.pocket_core.specs.Lists.{list_outcome}
 use Rattle.pocket_core.specs.Outcomes.{Body, Empty, Enters, Outcome, Shows, Tally, Tree, is_entered, state_after}
-use Rattle.pocket_core.specs.States.{MachineState, sender}
+use Rattle.pocket_states.specs.States.{MachineState, sender}
 use Rattle.pocket_core.specs.Views.{view_outcome}
 use Rattle.pocket_api.specs.declared.reply.Reply.{Reply}
 use Rattle.pocket_api.specs.declared.reply.ReplyBody.{ReplyBody}
@@ -23,24 +24,36 @@ use Rattle.pocket_api.specs.declared.work.Work.{Work}
 -- ---- outcomes
 
 -- the outcome of each call; one that isn't built yet has no route
-abbrev pub call_outcome : World → Ask → Call → Outcome
-call_outcome w ask (call.List name query) = list_outcome w ask name query
-call_outcome w ask (call.View target shown) = view_outcome w ask target shown
-call_outcome w ask _ = Err (because why.NoRoute)
+abbrev pub call_outcome : MachineState → Ask → List ℕ → Call → Outcome
+call_outcome s ask words (call.List name query) = list_outcome s.world ask name query
+call_outcome s ask words (call.View target shown) = view_outcome s.world ask target shown
+call_outcome s ask words (call.Create name body shown) = create_outcome s ask words name body shown
+call_outcome s ask words (call.Update target body shown) = update_outcome s ask target body shown
+call_outcome s ask words _ = Err (because why.NoRoute)
 
 -- the outcome of a work in a state
 abbrev pub work_outcome : MachineState → Work → Outcome
-work_outcome s work = call_outcome s.world (bare_ask (sender s work) work) work.call
+work_outcome s work = call_outcome s (bare_ask (sender s work) work) work.draw.words work.call
 
--- whether a history has no room for one more command
+-- whether a history has no room for one more command, of this cost
+abbrev pub has_no_room : Tally → ℕ → Bool
+has_no_room t cost = nat_le 1000000 t.entries || nat_lt 268435456 (t.bytes + cost)
+
 abbrev pub is_full : Tally → Work → Bool
-is_full t work = nat_le 1000000 t.entries || nat_lt 268435456 (t.bytes + work.cost)
+is_full t work = has_no_room t work.cost
+
+-- the refusal of a full history, which tells its commands and what its bytes would be
+abbrev pub no_room : Tally → ℕ → Refusal
+no_room t cost = because (why.HistoryFull t.entries (held (t.bytes + cost)))
+
+abbrev pub full_history : Tally → Work → Refusal
+full_history t work = no_room t work.cost
 
 -- the outcome of a work in a state, after so many commands: a full history refuses what would be entered, last of all
 unfoldable pub outcome : Tally → MachineState → Work → Outcome
 outcome t s work = do
   done ← work_outcome s work
-  _ ← refuse (is_entered done && is_full t work) (because (why.HistoryFull t.entries (t.bytes + work.cost)))
+  _ ← refuse (is_entered done && is_full t work) (full_history t work)
   Ok done
 
 -- ---- histories
@@ -108,6 +121,6 @@ abbrev pub EntersWork : Answer → Reply → Type 0
 EntersWork a reply = IsAnswer a reply × IsTrue a.enters
 
 -- the history after a call grew by the work exactly where the reply enters it
-pub record IsHistoryAfter (a : Answer) (reply : Reply) (work : Work) (old new : List Work) : Type 0 where
-  pub entered : EntersWork a reply → new ≡ old ++ work ∷ []
-  pub other : ¬ EntersWork a reply → new ≡ old
+abbrev pub IsHistoryAfter : Answer → Reply → Work → List Work → List Work → Type 0
+IsHistoryAfter a reply work old new =
+    (EntersWork a reply × (new ≡ old ++ work ∷ [])) ⊎ ((¬ EntersWork a reply) × (new ≡ old))

@@ -20,7 +20,7 @@ use Rattle.pocket_api.specs.declared.call.Shown.{Shown}
 use Rattle.pocket_api.specs.declared.call.Target.{Target}
 use Rattle.pocket_api.specs.declared.work.Work.{Work}
 use Rattle.pocket_core.specs.Answers.{Answer, after, answer}
-use Rattle.pocket_core.specs.States.{IsSoundState, MachineState, sender}
+use Rattle.pocket_states.specs.States.{IsSoundState, MachineState, sender}
 
 -- what is told of an answer: its status and its body
 abbrev pub told : Answer → ℕ × Option Jv

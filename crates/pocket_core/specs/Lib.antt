@@ -1,11 +1,14 @@
 pub mod Answers
-pub mod Clients
+pub mod Callers
+pub mod Changing
+pub mod Entering
+pub mod Courses
 pub mod Faults
 pub mod Kept
 pub mod Laws
 pub mod Lists
 pub mod Opening
 pub mod Outcomes
+pub mod Preparing
 pub mod Showing
-pub mod States
 pub mod Views

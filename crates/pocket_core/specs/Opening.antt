@@ -3,7 +3,7 @@ use Rattle.std.specs.Prelude.{◌≡◌, ℕ, List, [], Option, Some, None, ⊤}
 use Rattle.pocket_types.specs.Causes.{Rose}
 use Rattle.pocket_keeper.specs.declared.rows.KeptRow.{KeptRow}
 use Rattle.pocket_store.specs.Stores.{HaveSameRows, IsFirstBadRow, IsStoreOf}
-use Rattle.pocket_core.specs.States.{IsSoundState, MachineState, StateView, rows_of, stored_in}
+use Rattle.pocket_states.specs.States.{IsSoundState, MachineState, StateView, rows_of, stored_in}
 use Rattle.pocket_core.specs.declared.opening.StartFault.{StartFault}
 use Rattle.pocket_core.specs.declared.opening.StartFault.TheVariants.{KeeperFault, BadStore, Memory}
 

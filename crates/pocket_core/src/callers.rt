@@ -5,9 +5,10 @@ ghost use Rattle.pocket_types.specs.Order.{Rises};
 ghost use Rattle.pocket_types.specs.declared.requests.Caller.TheVariants as caller;
 ghost use Rattle.pocket_api.specs.Asks.{bare_ask};
 ghost use Rattle.pocket_tables.specs.Places.{IsPlaceOf};
-ghost use Rattle.pocket_core.specs.States.{bearer, member_at, text_of, token_of_text};
+ghost use Rattle.pocket_core.specs.Callers.{whole_of};
+ghost use Rattle.pocket_states.specs.States.{bearer, member_at, text_of, token_of_text};
 
-use pocket_api::{Call, Work};
+use pocket_api::{Call, Draw, Work};
 use pocket_keeper::Token;
 use pocket_types::{Ask, Caller, Context, Moment, Seq, Text};
 use std::alloc::{AllocError, Global};
@@ -72,19 +73,28 @@ pub(crate) fn find_sender(
     }
 }
 
-/// What rules see of a work, and what it calls for.
-pub(crate) fn asked(alloc: Global, caller: Caller, work: Work) -> (Ask, Call)
+/// What rules don't see of a work.
+#[derive(Drop)]
+pub(crate) struct Rest {
+    pub(crate) token: Option<Text>,
+    pub(crate) draw: Draw,
+    pub(crate) call: Call,
+    pub(crate) cost: u64,
+}
+
+/// What rules see of a work, and the rest of it.
+pub(crate) fn taken_apart(alloc: Global, caller: Caller, work: Work) -> (Ask, Rest)
     ensures ask { result.0 ≡ bare_ask caller work }
-    ensures call { result.1 ≡ work.call }
+    ensures whole { whole_of result.0 result.1 ≡ work }
 {
     let Work {
-        token: _,
+        token,
         method,
         headers,
         query,
         draw,
         call,
-        cost: _,
+        cost,
     } = work;
     let ask = Ask {
         caller,
@@ -95,5 +105,43 @@ pub(crate) fn asked(alloc: Global, caller: Caller, work: Work) -> (Ask, Call)
         body: Seq::new(alloc),
         moment: draw.moment,
     };
-    (ask, call)
+    let rest = Rest {
+        token,
+        draw,
+        call,
+        cost,
+    };
+    (ask, rest)
+}
+
+/// The work whose parts these are, without a copy.
+pub(crate) fn put_together(ask: Ask, rest: Rest) -> Work
+    ensures { result ≡ whole_of ask rest }
+{
+    let Ask {
+        caller,
+        method,
+        context: _,
+        headers,
+        query,
+        body,
+        moment: _,
+    } = ask;
+    drop(caller);
+    drop(body);
+    let Rest {
+        token,
+        draw,
+        call,
+        cost,
+    } = rest;
+    Work {
+        token,
+        method,
+        headers,
+        query,
+        draw,
+        call,
+        cost,
+    }
 }

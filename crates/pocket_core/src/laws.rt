@@ -1,8 +1,10 @@
 // What follows from the definitions. Each law is a function without a body of its own.
-ghost use Rattle.std.specs.Prelude.{◌≡◌, []};
+ghost use Rattle.std.specs.Prelude.{◌≡◌, ◌≢◌, [], List};
 ghost use Rattle.pocket_store.specs.Stores.{HaveSameRows};
+ghost use Rattle.pocket_api.specs.declared.work.Work.{Work};
+ghost use Rattle.pocket_core.specs.Answers.{answer};
 ghost use Rattle.pocket_core.specs.Laws.{ListsTellWhatIsSeen, ViewsTellWhatIsSeen};
-ghost use Rattle.pocket_core.specs.States.{IsSoundState, MachineState, rows_of, stored_in};
+ghost use Rattle.pocket_states.specs.States.{IsSoundState, MachineState, rows_of, stored_in};
 
 use pocket_store::laws::sound_states_with_equal_rows_are_equal;
 
@@ -25,4 +27,10 @@ pub fn views_tell_what_is_seen()
 #[tactic(auto, using(crate::proofs::DependenceLemmas::lists_tell))]
 pub fn lists_tell_what_is_seen()
     ensures { ListsTellWhatIsSeen }
+{}
+
+/// The machine itself never answers 500: a reply that says so blames the keeper, and the call that made it tells that the keeper was asked.
+#[tactic(auto, using(crate::proofs::StatusLemmas::no_answer_is_500))]
+pub fn answers_blame_no_keeper()
+    ensures { (opening : MachineState) (history : List Work) (work : Work) → (answer opening history work).status ≢ 500 }
 {}

@@ -1,11 +1,15 @@
 //! The machine: a state is opened from kept rows, and answers one request at a time.
 //!
 //! `specs/Answers.antt` is the abstract machine: what each call comes to, the state after a history, and the answer to a work. It
-//! stands on `specs/States.antt` (what a state is, and who sends a work), `specs/Views.antt` (a view by rule) and `specs/Lists.antt` (the page
-//! of a list).
+//! stands on `specs/Views.antt` (a view by rule), `specs/Lists.antt` (the page of a list) and `specs/Changing.antt` (creations and updates).
+//! `specs/Entering.antt` says what a call leaves, and what is said where the keeper fails. What a state is stands in pocket_states.
 #![tactic(auto)]
 
 mod callers;
+mod changing;
+mod courses;
+mod entering;
+mod handling;
 pub mod laws;
 mod lists;
 mod opening;

@@ -25,7 +25,7 @@ use std::sync::ledger::Ledger;
 
 // ---- refusals
 
-fn verdict_why(verdict: Verdict) -> Why
+pub(crate) fn verdict_why(verdict: Verdict) -> Why
     ensures { result ≡ verdict_why verdict }
 {
     match verdict {

@@ -1,15 +1,15 @@
-ghost use Rattle.std.specs.Prelude.{◌≡◌, ◌⊎◌, ◌≤◌, [], IfErr, IfOk, length};
+ghost use Rattle.std.specs.Prelude.{◌≡◌, ◌≤◌, [], IfErr, IfOk};
 ghost use Rattle.pocket_types.specs.Causes.{StaysUntold};
 ghost use Rattle.pocket_keeper.specs.Keeping.{AreAsBefore};
 ghost use Rattle.pocket_store.specs.SoundStates.{IsSoundStored};
-ghost use Rattle.pocket_api.specs.Refusals.{IsNoMemory};
-ghost use Rattle.pocket_core.specs.Answers.{IsAnswer, IsHistoryAfter, after, answer, answer_of, work_outcome};
+ghost use Rattle.pocket_core.specs.Answers.{IsHistoryAfter, after, answer};
+ghost use Rattle.pocket_core.specs.Entering.{Commits, IsCounted, IsReply};
 ghost use Rattle.pocket_core.specs.Opening.{AreRowsOf, IsOpened, IsStartFault};
-ghost use Rattle.pocket_core.specs.States.{IsSoundState, opened_state, sender};
+ghost use Rattle.pocket_states.specs.States.{IsSoundState, opened_state, sender};
 
-use crate::callers::{asked, find_sender};
+use crate::callers::{find_sender, taken_apart};
+use crate::handling::handle;
 use crate::opening::StartFault;
-use crate::views::answer_call;
 use pocket_api::{Reply, Work};
 use pocket_gate::Rules;
 use pocket_keeper::{Committer, KeepFault, Keeper, Token};
@@ -30,7 +30,9 @@ pub struct State {
     // rising by their texts
     tokens: Seq<Token>,
     admin: Text,
-    journal: Seq<Work>,
+    journal: Vec<Work>,
+    // the sum of the costs of the journal's works, in bytes
+    costs: u64,
     // What was kept as the state was opened. It has no bytes.
     opening: Snapshot<Stored>,
 }
@@ -38,7 +40,7 @@ pub struct State {
 impl Model for State {
     ghost use Rattle.std.specs.Coded.{codes};
     ghost use Rattle.pocket_types.specs.contracts.json.Jv as jv;
-    ghost use Rattle.pocket_core.specs.States.{StateView};
+    ghost use Rattle.pocket_states.specs.States.{StateView};
 
     ghost Value = { StateView };
 
@@ -65,7 +67,8 @@ fn open_state(alloc: Global, stored: Stored, admin: Text) -> Result<State, Alloc
         rules,
         tokens,
         admin,
-        journal: Seq::new(alloc),
+        journal: Vec::new(alloc),
+        costs: 0,
         opening,
     })
 }
@@ -99,26 +102,8 @@ impl State {
         find_sender(&self.admin, tokens, work.draw.moment, &work.token)
     }
 
-    /// Answers a work at a place in the history.
-    fn answer<L: Ledger>(
-        &self,
-        alloc: Global,
-        work: Work,
-        at: u64,
-        steps: &mut Steps<L>,
-    ) -> Result<Reply, AllocError>
-        ensures reply { IfOk result (IsAnswer (answer_of at (work_outcome (after self.now.opening self.now.journal) work))) }
-        ensures steps { steps.old ≤ steps.new }
-    {
-        let caller = self.sender(&work)?;
-        let (ask, call) = asked(alloc, caller, work);
-        let reply = answer_call(alloc, &self.tables, &self.rules, &ask, &call, at, steps);
-        drop(ask);
-        drop(call);
-        reply
-    }
-
-    /// Answers one request. For want of memory the answer is 507, and state and rows are as before.
+    /// Answers one request. For want of memory the answer is 507, and where the keeper fails it is 500; then, as after every refusal, state
+    /// and rows are as before. A work that changes something is entered into the history once its row is kept.
     pub fn call<K: Committer, L: Ledger>(
         &mut self,
         alloc: Global,
@@ -127,21 +112,40 @@ impl State {
         steps: &mut Steps<L>,
     ) -> Reply
         requires rows { AreRowsOf (K.rows keeper.old) (after self.old.opening self.old.journal) }
-        ensures reply { IsAnswer (answer self.old.opening self.old.journal work) result
-            ⊎ IsNoMemory (length self.old.journal) result }
+        ensures reply { IsReply self.old.opening self.old.journal work result }
         ensures history { IsHistoryAfter (answer self.old.opening self.old.journal work) result work self.old.journal self.new.journal }
         ensures opening { self.new.opening ≡ self.old.opening }
 
         // The state that it leaves is sound, and what is told of the keeper are its rows.
         ensures sound { IsSoundState (after self.new.opening self.new.journal) }
         ensures rows { AreRowsOf (K.rows keeper.new) (after self.new.opening self.new.journal) }
-        ensures keeper { keeper.new ≡ keeper.old }
+        ensures untold { StaysUntold (K.rows keeper.old) (K.rows keeper.new) }
+
+        // The keeper is asked only where the work would be entered and rows change, and its faults are counted.
+        ensures unasked { (¬ Commits self.old.opening self.old.journal work) → keeper.new ≡ keeper.old }
+        ensures count { IsCounted (K.faults keeper.old) (K.faults keeper.new) result }
         ensures steps { steps.old ≤ steps.new }
     {
-        let at = self.journal.len() as u64;
-        match self.answer(alloc, work, at, steps) {
-            Ok(reply) => reply,
-            Err(_) => Reply::no_memory(at),
+        let at = self.journal.as_slice().len() as u64;
+        match self.sender(&work) {
+            Ok(caller) => {
+                let (ask, rest) = taken_apart(alloc, caller, work);
+                handle(
+                    alloc,
+                    &mut self.tables,
+                    &mut self.journal,
+                    &mut self.costs,
+                    &self.rules,
+                    keeper,
+                    ask,
+                    rest,
+                    steps,
+                )
+            }
+            Err(_) => {
+                drop(work);
+                Reply::no_memory(at)
+            }
         }
     }
 
@@ -162,10 +166,11 @@ impl State {
             tokens: _,
             admin: _,
             journal,
+            costs: _,
             opening: _,
         } = self;
         drop(tables);
         drop(rules);
-        journal
+        Seq::from_vec(journal)
     }
 }

@@ -8,15 +8,14 @@ ghost use Rattle.pocket_store.specs.SoundStates.{IsSoundWorld};
 ghost use Rattle.pocket_tables.specs.Worlds.{rec_at};
 ghost use Rattle.pocket_gate.specs.Built.{rules_of};
 ghost use Rattle.pocket_gate.specs.Rules.{keeps_out};
-ghost use Rattle.pocket_core.specs.Answers.{IsAnswer, answer_of, call_outcome};
+ghost use Rattle.pocket_core.specs.Answers.{IsAnswer, answer_of};
 ghost use Rattle.pocket_core.specs.Outcomes.{Shows, Tree};
 ghost use Rattle.pocket_core.specs.Showing.{shown_jv};
 ghost use Rattle.pocket_core.specs.Views.{rec_named_outcome, rec_outcome, view_outcome};
 
-use crate::lists::answer_list;
 use crate::refusals::refuse;
 use crate::showing::shown_rec;
-use pocket_api::{Call, Reply, Shown, Target, Why};
+use pocket_api::{Reply, Shown, Target, Why};
 use pocket_gate::{Rules, Verdict, is_locked_for};
 use pocket_tables::Tables;
 use pocket_types::{Action, Ask, Collection, Id, Jv, Name, Rec, Steps, Text};
@@ -132,7 +131,7 @@ fn answer_id<L: Ledger>(
 }
 
 /// A view: the collection first, then its locked rule, then the record, then what the rule says of it.
-fn answer_view<L: Ledger>(
+pub(crate) fn answer_view<L: Ledger>(
     alloc: Global,
     tables: &Tables,
     rules: &Rules,
@@ -156,30 +155,4 @@ fn answer_view<L: Ledger>(
     }
     let id = target.id.as_str();
     answer_id(alloc, tables, rules, ask, collection, id, shown, at, steps)
-}
-
-/// The answer to a call. Those that aren't built yet are answered as if they had no route.
-pub(crate) fn answer_call<L: Ledger>(
-    alloc: Global,
-    tables: &Tables,
-    rules: &Rules,
-    ask: &Ask,
-    call: &Call,
-    at: u64,
-    steps: &mut Steps<L>,
-) -> Result<Reply, AllocError>
-    requires sound { IsSoundWorld tables.now.world }
-    requires rules { rules.now ≡ rules_of (collections_of tables.now.world) }
-    ensures reply { IfOk result (IsAnswer (answer_of at (call_outcome tables.now.world ask.now call.now))) }
-    ensures steps { steps.old ≤ steps.new }
-{
-    match call {
-        Call::List { collection, query } => answer_list(
-            alloc, tables, rules, ask, collection, query, at, steps,
-        ),
-        Call::View { target, shown } => answer_view(
-            alloc, tables, rules, ask, target, shown, at, steps,
-        ),
-        _ => refuse(alloc, Why::NoRoute, at),
-    }
 }

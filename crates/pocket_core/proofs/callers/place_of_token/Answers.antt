@@ -3,7 +3,7 @@ use Rattle.std.proofs.lemmas.Fn.{always_returns_same}
 use Rattle.std.specs.Cmp.Lexicographic.{slice_cmp}
 use Rattle.std.specs.Ordering.{nat_cmp}
 use Rattle.pocket_tables.proofs.PlaceLemmas.{place_found}
-use Rattle.pocket_core.specs.States.{text_of}
+use Rattle.pocket_states.specs.States.{text_of}
 use Rattle.pocket_core.proofs.callers.place_of_token.Goals as goal
 
 -- the closure compares the texts of tokens

@@ -1,7 +1,7 @@
 use Rattle.std.proofs.Common.{ℕ, List, ap, sym, ◌∙◌}
 use Rattle.pocket_store.specs.declared.stored.Stored.{Stored}
-use Rattle.pocket_core.specs.Clients.{Client}
-use Rattle.pocket_core.specs.States.{MachineState, stored_in}
+use Rattle.pocket_states.specs.Clients.{Client}
+use Rattle.pocket_states.specs.States.{MachineState, stored_in}
 use Rattle.pocket_core.proofs.laws.kept_rows_decide_the_state.Goals as goal
 
 abbrev state_with : List Client → List ℕ → Stored → MachineState

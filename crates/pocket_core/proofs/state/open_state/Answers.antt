@@ -1,4 +1,4 @@
-use Rattle.pocket_core.proofs.OpeningLemmas.{sound_tabled}
+use Rattle.pocket_states.proofs.PutWorldLemmas.{sound_tabled}
 use Rattle.pocket_core.proofs.state.open_state.Goals as goal
 
 pub build-requires : goal.build-requires
