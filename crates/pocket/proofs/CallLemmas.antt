@@ -1,42 +1,20 @@
 -- A call that a state answers is one of a session.
-use Rattle.std.proofs.Common.{◌≡◌, ◌⊎◌, inl, inr, ℕ, Bool, true, false, List, [], ◌∷◌, ◌++◌, Some, Ok, Err, length, take, refl, sym, ◌∙◌, ap, subst, arith, append-nil, length-append}
-use Rattle.std.specs.Prelude.{IsTrue, slice_get}
-use Rattle.std.proofs.lemmas.Bool.{false≢true}
+use Rattle.std.proofs.Common.{◌≡◌, inl, inr, ℕ, List, [], ◌∷◌, ◌++◌, Some, length, take, refl, sym, ◌∙◌, ap, subst, arith, append-nil, length-append}
+use Rattle.std.specs.Prelude.{slice_get}
 use Rattle.std.proofs.Math.Seq.{take-append_seam}
-use Rattle.pocket_api.specs.Refusals.{IsNoMemory}
 use Rattle.pocket_api.specs.declared.reply.Reply.{Reply}
 use Rattle.pocket_api.specs.declared.work.Work.{Work}
 use Rattle.pocket_desk.specs.History.{BeginsWith}
 use Rattle.pocket_desk.specs.declared.view.Call.{Call}
 use Rattle.pocket_serve.specs.Owners.{Alone}
 use Rattle.pocket_serve.specs.Sessions.{IsCallFrom}
-use Rattle.pocket_core.specs.Answers.{Answer, EntersWork, IsAnswer, IsHistoryAfter, answer, answer_of}
-use Rattle.pocket_core.specs.Outcomes.{Empty, Enters, Outcome, Shows, Tree}
-use Rattle.pocket_core.specs.States.{MachineState}
+use Rattle.pocket_core.specs.Answers.{IsHistoryAfter, answer}
+use Rattle.pocket_states.specs.States.{MachineState}
 use Rattle.pocket.specs.Calls.{StateEnters, StateFits}
 
 get_seam : {A : Type 0} (xs : List A) (x : A) → slice_get (xs ++ x ∷ []) (length xs) ≡ Some x
 get_seam [] x = refl
 get_seam (y ∷ xs) x = get_seam xs x
-
--- ---- a reply enters its work or doesn't
-
--- no answer that enters has the body for want of memory
-entering_body : (at : ℕ) (o : Outcome) → IsTrue (answer_of at o).enters → (answer_of at o).status ≡ 507 → ⊥
-entering_body at (Ok (Enters s Empty)) h e = absurd (omega (arith, e))
-entering_body at (Ok (Enters s (Tree t))) h e = absurd (omega (arith, e))
-entering_body at (Ok (Shows Empty)) h e = absurd (false≢true h)
-entering_body at (Ok (Shows (Tree t))) h e = absurd (false≢true h)
-entering_body at (Err refusal) h e = absurd (false≢true h)
-
-by_answer : (a : Answer) (reply : Reply) (b : Bool) → a.enters ≡ b → IsAnswer a reply → EntersWork a reply ⊎ (¬ (EntersWork a reply))
-by_answer a reply true e is = inl (is, e)
-by_answer a reply false e is = inr (λ x. false≢true (sym e ∙ x.1))
-
-enters_or_not : (at place : ℕ) (o : Outcome) (reply : Reply) → IsAnswer (answer_of at o) reply ⊎ IsNoMemory place reply
-    → EntersWork (answer_of at o) reply ⊎ (¬ (EntersWork (answer_of at o) reply))
-enters_or_not at place o reply (inl is) = by_answer (answer_of at o) reply (answer_of at o).enters refl is
-enters_or_not at place o reply (inr wanting) = inr (λ x. entering_body at o x.1 (sym x.0.status ∙ wanting.status))
 
 -- ---- the call of a work
 
@@ -73,10 +51,6 @@ module _ (opening : MachineState) (old : List Work) (work : Work) (reply : Reply
         },
       )
 
-  either : (now : List Work) → IsHistoryAfter (answer opening old work) reply work old now → EntersWork (answer opening old work) reply ⊎ (¬ (EntersWork (answer opening old work) reply))
-      → Continues now
-  either now after (inl e) = subst Continues (sym (after.entered e)) (entered e)
-  either now after (inr never) = subst Continues (sym (after.other never)) (stayed never)
-
   pub continues : (now : List Work) → IsHistoryAfter (answer opening old work) reply work old now → Continues now
-  continues now after = either now after (enters_or_not _ (length old) _ reply fits)
+  continues now (inl grown) = subst Continues (sym grown.1) (entered grown.0)
+  continues now (inr same) = subst Continues (sym same.1) (stayed same.0)

@@ -1,19 +1,21 @@
 -- The calls of a run, which one state answers alone, and the turns that they are noted as.
-use Rattle.std.specs.Prelude.{◌⊎◌, ℕ, List, map, length}
+use Rattle.std.specs.Prelude.{◌≡◌, ◌≤◌, ◌+◌, ◌-◌, ◌^◌, ◌==◌, ℕ, List, [], ◌∷◌, map, length, min, Option, if◌then◌else◌}
+use Rattle.pocket_types.specs.Causes.{StaysUntold}
+use Rattle.pocket_keeper.specs.declared.rows.KeptRow.{KeptRow}
 use Rattle.pocket_wire.specs.declared.request.Ended.{Ended}
-use Rattle.pocket_api.specs.Refusals.{IsNoMemory}
 use Rattle.pocket_api.specs.declared.reply.Reply.{Reply}
 use Rattle.pocket_api.specs.declared.work.Work.{Work}
 use Rattle.pocket_desk.specs.declared.view.Call.{Call}
 use Rattle.pocket_serve.specs.Owners.{Alone}
 use Rattle.pocket_serve.specs.Sessions.{IsSession}
-use Rattle.pocket_core.specs.Answers.{EntersWork, IsAnswer, answer}
-use Rattle.pocket_core.specs.States.{MachineState}
+use Rattle.pocket_core.specs.Answers.{EntersWork, answer}
+use Rattle.pocket_core.specs.Entering.{IsCounted, IsReply}
+use Rattle.pocket_states.specs.States.{MachineState}
 use Rattle.pocket.specs.declared.status.Turn.{Turn}
 
--- a reply to a work after a history from an opened state: the machine's answer, or that memory is wanting
+-- a reply to a work after a history from an opened state: the machine's answer, that memory is wanting, or that the keeper failed
 abbrev pub StateFits : MachineState → List Work → Work → Reply → Type 0
-StateFits opening history work reply = IsAnswer (answer opening history work) reply ⊎ IsNoMemory (length history) reply
+StateFits = IsReply
 
 -- it enters the work
 abbrev pub StateEnters : MachineState → List Work → Work → Reply → Type 0
@@ -30,3 +32,25 @@ turns_of calls = map turn_of calls
 abbrev pub IsOwnSession : MachineState → List Work → List (Call Work Reply) → List ℕ → List ℕ → List ℕ → Ended → Type 0
 IsOwnSession opening history calls bytes said last ended =
     IsSession (StateFits opening) (StateEnters opening) Alone history 0 calls bytes said last ended (length history)
+
+-- ---- the keeper
+
+-- the keeper's count over calls, one after the other: it doesn't fall, and rises at each that is answered 500
+abbrev pub CountsOver : List (Call Work Reply) → ℕ → ℕ → Type 0
+CountsOver [] before now = now ≡ before
+CountsOver (call ∷ calls) before now = (middle : ℕ) × IsCounted before middle call.reply × CountsOver calls middle now
+
+-- how many of these calls were answered 500
+abbrev pub failures : List (Call Work Reply) → ℕ
+failures [] = 0
+failures (call ∷ calls) = (if call.reply.status == 500 then 1 else 0) + failures calls
+
+-- a count rose by so many at least, or stands at its end
+abbrev pub RoseBy : ℕ → ℕ → ℕ → Type 0
+RoseBy n before now = min (before + n) (2 ^ 64 - 1) ≤ now
+
+-- what becomes of a keeper over calls: what it didn't tell it doesn't tell now, and its count didn't fall and rose by the failures
+pub record IsKeptOver (calls : List (Call Work Reply)) (old new : Option (List KeptRow)) (before now : ℕ) : Type 0 where
+  pub untold : StaysUntold old new
+  pub later : before ≤ now
+  pub failed : RoseBy (failures calls) before now

@@ -1,4 +1,5 @@
 pub mod Calls
 pub mod Exits
+pub mod Keeping
 pub mod Runs
 pub mod Words

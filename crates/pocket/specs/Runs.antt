@@ -5,7 +5,7 @@ use Rattle.pocket_wire.specs.declared.request.Ended.{Ended}
 use Rattle.pocket_keeper.specs.Keeping.{IfBothTold}
 use Rattle.pocket_keeper.specs.declared.rows.KeptRow.{KeptRow}
 use Rattle.pocket_store.specs.Stores.{IsFirstBadRow, IsStoreOf}
-use Rattle.pocket_core.specs.States.{IsSoundState, MachineState, stored_in}
+use Rattle.pocket_states.specs.States.{IsSoundState, MachineState, stored_in}
 use Rattle.pocket_core.specs.declared.opening.StartFault.{StartFault}
 use Rattle.pocket_core.specs.declared.opening.StartFault.TheVariants as start
 use Rattle.pocket.specs.Words.{IsPipe}

@@ -1,7 +1,7 @@
 //! What follows from the definition of a session. Each law is a function without a body of its own.
 ghost use Rattle.pocket_serve.specs.Laws.{OwnPositionsRise, OwnSessionsAreShared, SessionsExtend};
 ghost use Rattle.pocket_serve.specs.Owners.{Alone};
-ghost use Rattle.pocket_core.specs.States.{MachineState};
+ghost use Rattle.pocket_states.specs.States.{MachineState};
 ghost use Rattle.pocket.specs.Calls.{StateEnters, StateFits};
 
 use crate::service::StateService;

@@ -11,8 +11,8 @@ ghost use Rattle.pocket_serve.specs.Drawing.{IsDrawn, draws_of};
 ghost use Rattle.pocket_serve.specs.Sending.{Takes};
 ghost use Rattle.pocket_core.specs.Answers.{after};
 ghost use Rattle.pocket_core.specs.Opening.{AreRowsOf};
-ghost use Rattle.pocket_core.specs.States.{MachineState};
-ghost use Rattle.pocket.specs.Calls.{IsOwnSession, turns_of};
+ghost use Rattle.pocket_states.specs.States.{MachineState};
+ghost use Rattle.pocket.specs.Calls.{IsKeptOver, IsOwnSession, turns_of};
 ghost use Rattle.pocket.specs.Runs.{IsOpeningOf, IsPipeEnd, OnPipe, OnSession, OnUnopened, end_of};
 ghost use Rattle.pocket.specs.Words.{IsPipe};
 
@@ -73,11 +73,13 @@ fn run_opened<S: Source, O: Sink, K: Committer, C: Clock, D: Dice, L: Ledger>(
         × IsOwnSession state.opening result.journal calls bytes said last ended
         × Takes (O.taken sink.old) (O.taken sink.new) (O.faults sink.old) (O.faults sink.new) said last ended
         × IsDrawn (C.answers clock.old) (C.answers clock.new) (D.answers dice.old) (D.answers dice.new) (draws_of calls) ended
-        × AreRowsOf (K.rows keeper.new) (after state.opening result.journal)) }
+        × AreRowsOf (K.rows keeper.new) (after state.opening result.journal)
+        × IsKeptOver calls (K.rows keeper.old) (K.rows keeper.new) (K.faults keeper.old) (K.faults keeper.new)) }
     ensures source_fault { OnSession result.ended (λ ended. ended ≡ SourceFault → Rose (S.faults source.old) (S.faults source.new)) }
     ensures at_end { OnSession result.ended (λ ended. (ended ≡ Done) ⊎ (ended ≡ Truncated) → IsAtEnd (S.left source.new)) }
     ensures opened { OnUnopened result.ended ⊥ }
-    ensures keeper { keeper.new ≡ keeper.old }
+    ensures untold { StaysUntold (K.rows keeper.old) (K.rows keeper.new) }
+    ensures keeper_count { K.faults keeper.old ≤ K.faults keeper.new }
     ensures source_count { S.faults source.old ≤ S.faults source.new }
     ensures sink_count { O.faults sink.old ≤ O.faults sink.new }
 {
@@ -124,8 +126,9 @@ pub fn run_plain<S: Source, O: Sink, K: Keeper, C: Clock, D: Dice>(
     ensures ended { IsPipeEnd (map string_bytes words.now) (K.rows keeper.old) (K.rows keeper.new) (K.faults keeper.old) (K.faults keeper.new) result.ended }
 
     // `pipe`: from the state that the rows told at first stand for, the turns and the accepted commands are those of a session over
-    // the bytes that the source gave; the sink took what the session sent, and clock and dice gave what was drawn; and the rows told
-    // at the end are those of the state after the accepted commands.
+    // the bytes that the source gave; the sink took what the session sent, and clock and dice gave what was drawn; the rows told at
+    // the end, also after a fault, are those of the state after the accepted commands; and the keeper's count rose by at least the number
+    // of replies 500, or stands at its end.
     ensures session { OnPipe (map string_bytes words.now) (OnSession result.ended (λ ended. (opening : MachineState)
         × IsOpeningOf (map string_bytes words.now) (K.rows keeper.old) (K.rows keeper.new) opening
         × (calls : List (Call Work Reply)) × (bytes : List ℕ) × (said : List ℕ) × (last : List ℕ)
@@ -134,17 +137,19 @@ pub fn run_plain<S: Source, O: Sink, K: Keeper, C: Clock, D: Dice>(
         × IsOwnSession opening result.journal calls bytes said last ended
         × Takes (O.taken sink.old) (O.taken sink.new) (O.faults sink.old) (O.faults sink.new) said last ended
         × IsDrawn (C.answers clock.old) (C.answers clock.new) (D.answers dice.old) (D.answers dice.new) (draws_of calls) ended
-        × AreRowsOf (K.rows keeper.new) (after opening result.journal))) }
+        × AreRowsOf (K.rows keeper.new) (after opening result.journal)
+        × IsKeptOver calls (K.rows keeper.old) (K.rows keeper.new) (K.faults keeper.old) (K.faults keeper.new))) }
     ensures source_fault { OnPipe (map string_bytes words.now) (OnSession result.ended (λ ended. ended ≡ SourceFault → Rose (S.faults source.old) (S.faults source.new))) }
     ensures at_end { OnPipe (map string_bytes words.now) (OnSession result.ended (λ ended. (ended ≡ Done) ⊎ (ended ≡ Truncated) → IsAtEnd (S.left source.new))) }
 
-    // Without a session nothing is read, sent or drawn.
+    // Without a session nothing is read, sent or drawn, and the told rows are as before.
     ensures no_turn { OnUnopened result.ended ((result.turns ≡ []) × (result.journal ≡ [])) }
     ensures untouched { OnUnopened result.ended
         ((source.new ≡ source.old) × (sink.new ≡ sink.old) × (clock.new ≡ clock.old) × (dice.new ≡ dice.old)) }
 
-    // The told rows are as before, and no count of faults falls.
-    ensures rows { AreAsBefore (K.rows keeper.old) (K.rows keeper.new) }
+    ensures rows { OnUnopened result.ended (AreAsBefore (K.rows keeper.old) (K.rows keeper.new)) }
+
+    // What the keeper didn't tell it doesn't tell now, and no count of faults falls.
     ensures untold { StaysUntold (K.rows keeper.old) (K.rows keeper.new) }
     ensures keeper_count { K.faults keeper.old ≤ K.faults keeper.new }
     ensures source_count { S.faults source.old ≤ S.faults source.new }

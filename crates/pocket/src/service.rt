@@ -28,13 +28,15 @@ fn note_turn(turns: &mut Seq<Turn>, at: u64, draw: Draw) -> Result<(), AllocErro
 }
 
 impl<K: Committer, L: Ledger> Service for StateService<K, L> {
-    ghost use Rattle.std.specs.Prelude.{◌≡◌, ◌++◌, refl, List};
-    ghost use Rattle.pocket_serve.specs.Growing.{notes_more, notes_none, same_more};
+    ghost use Rattle.std.specs.Prelude.{◌≡◌, ◌++◌, refl};
+    ghost use Rattle.pocket_types.specs.Causes.{StaysUntold};
+    ghost use Rattle.pocket_serve.specs.Growing.{notes_more, notes_none};
     ghost use Rattle.pocket_serve.specs.Owners.{Alone};
     ghost use Rattle.pocket_core.specs.Answers.{after};
     ghost use Rattle.pocket_core.specs.Opening.{AreRowsOf};
-    ghost use Rattle.pocket_core.specs.States.{MachineState};
-    ghost use Rattle.pocket.specs.Calls.{StateEnters, StateFits, turn_of, turns_of};
+    ghost use Rattle.pocket_states.specs.States.{MachineState};
+    ghost use Rattle.pocket.specs.Calls.{CountsOver, StateEnters, StateFits, turn_of, turns_of};
+    ghost use Rattle.pocket.specs.Keeping.{counts_more, untold_more, untold_none};
 
     type Lent = K;
 
@@ -52,13 +54,17 @@ impl<K: Committer, L: Ledger> Service for StateService<K, L> {
 
     ghost is_ready = { λ s keeper. AreRowsOf (K.rows keeper) (after s.state.opening s.state.journal) };
 
-    // the turns are those of the calls, and the keeper is as before
-    ghost came_by = { λ one lent calls two lent_now. (two.turns ≡ one.turns ++ turns_of calls) × (lent_now ≡ lent) };
+    // the turns are those of the calls, what the keeper didn't tell it doesn't tell now, and its faults are counted
+    ghost came_by = { λ one lent calls two lent_now. (two.turns ≡ one.turns ++ turns_of calls)
+        × StaysUntold (K.rows lent) (K.rows lent_now) × CountsOver calls (K.faults lent) (K.faults lent_now) };
 
-    ghost came_by_none = { λ one lent. (notes_none turn_of one.turns, refl) };
+    ghost came_by_none = { λ one lent. (notes_none turn_of one.turns, untold_none (K.rows lent), refl) };
 
-    ghost came_by_more = { λ one two three lent_one lent_two lent_three calls more first second.
-        (notes_more turn_of one.turns two.turns three.turns calls more first.0 second.0, same_more lent_one lent_two lent_three first.1 second.1) };
+    ghost came_by_more = { λ one two three lent_one lent_two lent_three calls more first second. (
+      notes_more turn_of one.turns two.turns three.turns calls more first.0 second.0,
+      untold_more (K.rows lent_one) (K.rows lent_two) (K.rows lent_three) first.1 second.1,
+      counts_more calls more (K.faults lent_one) (K.faults lent_two) (K.faults lent_three) first.2 second.2,
+    ) };
 
     fn call(
         mut self,

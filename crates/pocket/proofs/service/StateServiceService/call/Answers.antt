@@ -12,4 +12,4 @@ returns-clause-some g c =
     let made =
     continues c.args.self.state.opening c.args.self.state.journal c.args.work c.call-reply.result (length c.journal.result.now) (ap length c.journal.ensures)
     c.call-reply.ensures.reply c.call-reply.new.self.journal c.call-reply.ensures.history in
-    (call_at (length c.journal.result.now) c.args.work c.call-reply.result, refl, refl, made.1, (c.in-Ok.ensures.ok, c.call-reply.ensures.keeper))
+    (call_at (length c.journal.result.now) c.args.work c.call-reply.result, refl, refl, made.1, (c.in-Ok.ensures.ok, c.call-reply.ensures.untold, (_, c.call-reply.ensures.count, refl)))
