@@ -1,10 +1,8 @@
 // Calls that requests make, in words.
-use crate::askers::method_of;
-use crate::given::Given;
-use crate::trouble::Trouble;
 use pocket_api::{Body, Call, Draw, ListQuery, Shown, Target, Work, work_of};
+use pocket_cases_text::{Given, Trouble, method_of};
 use pocket_ops::date_read;
-use pocket_types::{Pair, Seq, Text};
+use pocket_types::{Moment, Pair, Seq, Text};
 use pocket_wire::Request;
 use std::alloc::{AllocError, Global};
 
@@ -208,17 +206,44 @@ fn told_work(alloc: Global, work: &Work) -> Result<String, AllocError> {
     Ok(out)
 }
 
-/// What is told of the work of a request, with the moment 2024-05-01 10:00 and the words 6 and 7.
-fn told_for(alloc: Global, request: &Request) -> Result<String, Trouble> {
-    let draw = Draw {
-        moment: date_read("2024-05-01 10:00").ok_or("no moment")?,
+/// The draw of a case: this moment, and the words 6 and 7.
+fn drawn_at(moment: Moment) -> Draw {
+    Draw {
+        moment,
         words: [6, 7],
-    };
-    let work = work_of(alloc, request, draw)?;
-    if !is_of(&work, request, draw) {
-        return Err(Trouble::Case("another method, draw or cost"));
     }
-    Ok(told_work(alloc, &work)?)
+}
+
+/// What is told of a work where it is one of a request, drawn at this moment.
+fn told_if_of(
+    alloc: Global,
+    work: &Work,
+    request: &Request,
+    moment: Moment,
+) -> Result<String, Trouble> {
+    if is_of(work, request, drawn_at(moment)) {
+        Ok(told_work(alloc, work)?)
+    } else {
+        Err(Trouble::Case("another method, draw or cost"))
+    }
+}
+
+/// What is told of the work of a request that is drawn at this moment.
+fn told_at(alloc: Global, request: &Request, moment: Moment) -> Result<String, Trouble> {
+    match work_of(alloc, request, drawn_at(moment)) {
+        Ok(work) => {
+            let told = told_if_of(alloc, &work, request, moment);
+            drop(work);
+            told
+        }
+        Err(_) => Err(Trouble::Memory),
+    }
+}
+
+/// What is told of the work of a request, with the moment 2024-05-01 10:00.
+fn told_for(alloc: Global, request: &Request) -> Result<String, Trouble> {
+    let moment = date_read("2024-05-01 10:00").ok_or("no moment")?;
+    told_at(alloc, request, moment)
 }
 
 /// What a request calls for. Its body stands behind `|` in the last line.

@@ -1,5 +1,5 @@
 // Calls over the texts of filters.
-use crate::trouble::Trouble;
+use pocket_cases_text::Trouble;
 use pocket_filter::{parse, print};
 use pocket_types::{Expr, FilterFault, Text};
 use std::alloc::{AllocError, Global};

@@ -1,23 +1,22 @@
 // The calls that cases make, by their names.
-use crate::cases::head_of;
-use crate::given::Given;
-use crate::trouble::Trouble;
-use crate::{
-    calls, changes, filters, gate, paths, refusals, requests, rows, runs, stores, tables, texts,
-    truths, values,
-};
+use crate::{calls, filters, paths, refusals, requests, rows, stores, texts, values};
+use pocket_cases_text::{Calls, Given, Trouble, head_of};
 use std::alloc::Global;
 
-/// The outcome of a call that is written in a case.
-pub fn outcome(alloc: Global, given: &Given, case: &str) -> Result<String, Trouble> {
-    let (call, written) = head_of(case);
-    match call {
-        "json" => texts::json(alloc, given.bytes_of(alloc, written)?.as_slice()),
-        "request" => requests::request(alloc, given.bytes_of(alloc, written)?.as_slice()),
-        "call" => calls::call(alloc, given, written),
-        "open" => stores::opened(alloc, given, written),
-        "change" => stores::changed(alloc, given, written),
-        _ => outcome_of_text(alloc, given, call, given.text_of(alloc, written)?.as_str()),
+/// The calls of the lower libraries.
+pub struct LowerCalls;
+
+impl Calls for LowerCalls {
+    fn outcome(&self, alloc: Global, given: &Given, case: &str) -> Result<String, Trouble> {
+        let (call, written) = head_of(case);
+        match call {
+            "json" => texts::json(alloc, given.bytes_of(alloc, written)?.as_slice()),
+            "request" => requests::request(alloc, given.bytes_of(alloc, written)?.as_slice()),
+            "call" => calls::call(alloc, given, written),
+            "open" => stores::opened(alloc, given, written),
+            "change" => stores::changed(alloc, given, written),
+            _ => outcome_of_text(alloc, given, call, given.text_of(alloc, written)?.as_str()),
+        }
     }
 }
 
@@ -28,6 +27,24 @@ fn outcome_of_text(
     call: &str,
     text: &str,
 ) -> Result<String, Trouble> {
+    match call {
+        "rule" | "client" | "admin" => paths::resolved(alloc, given, call, text),
+        "key" => rows::key(alloc, text),
+        "names" => rows::own_names(alloc, text),
+        "collection" => rows::collection(alloc, text),
+        "record" => rows::record(alloc, given, text),
+        "token" => rows::token(alloc, text),
+        "commit" => stores::committed(alloc, given, text),
+        "print" => stores::printed(alloc, text),
+        "phrase" => requests::phrase(alloc, text),
+        "why" => refusals::why(alloc, text),
+        "reply" => refusals::bytes(alloc, text),
+        _ => outcome_of_value(alloc, call, text),
+    }
+}
+
+/// The outcome of a call over values and short texts.
+fn outcome_of_value(alloc: Global, call: &str, text: &str) -> Result<String, Trouble> {
     match call {
         "compare" => values::compared(alloc, text),
         "like" => values::liked(alloc, text),
@@ -41,25 +58,6 @@ fn outcome_of_text(
         "made" => texts::made_id(alloc, text),
         "moment" => texts::moment(alloc, text),
         "parse" => filters::parsed(alloc, text),
-        "rule" | "client" | "admin" => paths::resolved(alloc, given, call, text),
-        "holds" => truths::holds(alloc, given, text),
-        "may" | "sees" => gate::asked(alloc, given, call, text),
-        "key" => rows::key(alloc, text),
-        "names" => rows::own_names(alloc, text),
-        "collection" => rows::collection(alloc, text),
-        "record" => rows::record(alloc, given, text),
-        "token" => rows::token(alloc, text),
-        "commit" => stores::committed(alloc, given, text),
-        "print" => stores::printed(alloc, text),
-        "read" => tables::read(alloc, given, text),
-        "apply" => changes::there_and_back(alloc, given, text),
-        "after" => changes::rows_after(alloc, given, text),
-        "phrase" => requests::phrase(alloc, text),
-        "why" => refusals::why(alloc, text),
-        "reply" => refusals::bytes(alloc, text),
-        "pipe" => runs::pipe(alloc, given, text),
-        "row" => runs::bad_row(alloc, given, text),
-        "sample" => runs::sample(alloc),
         _ => Err(Trouble::Case("no such call")),
     }
 }

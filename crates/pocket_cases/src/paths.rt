@@ -1,8 +1,7 @@
 // Calls that look up the names in filters.
 use crate::filters::told_fault;
-use crate::given::Given;
 use crate::schemas::collections_of;
-use crate::trouble::Trouble;
+use pocket_cases_text::{Given, Trouble};
 use pocket_filter::parse;
 use pocket_resolve::{Purpose, ResolveFault, resolve};
 use pocket_types::{Collection, Leaf, Modifier, Name, Prefix, Resolved, Root, Step, Value};

@@ -1,12 +1,10 @@
 // Causes of replies from words, and the replies that they give.
-use crate::askers::caller_of;
-use crate::texts::in_both_ways;
-use crate::trouble::Trouble;
 use pocket_api::{
     Reply, ReplyBody, Why, data_of, fixed_bytes, item_jv, refusal_jv, reply_bytes, status_of,
 };
+use pocket_cases_text::{Trouble, caller_of, in_both_ways, name_of};
 use pocket_types::{
-    Action, Code, FieldFault, FilterFault, Id, Limit, Name, ResolveFault, RuleFault, Seq, Text,
+    Action, Code, FieldFault, FilterFault, Id, Limit, ResolveFault, RuleFault, Seq, Text,
 };
 use std::alloc::{AllocError, Global};
 
@@ -23,10 +21,6 @@ fn number_of(word: &str) -> Result<u32, Trouble> {
 
 fn bytes_number(word: &str) -> Result<u64, Trouble> {
     Ok(word.parse::<u64>().ok().ok_or("no number")?)
-}
-
-fn name_of(alloc: Global, word: &str) -> Result<Name, Trouble> {
-    Ok(Name::read(alloc, word).ok().ok_or("no name")?)
 }
 
 fn filter_fault_of(words: &str) -> Option<Result<FilterFault, Trouble>> {
@@ -257,13 +251,25 @@ fn told(alloc: Global, reply: &Reply) -> Result<String, AllocError> {
     }
 }
 
+/// The status and the text of a reply with the place 5.
+fn told_there(alloc: Global, reply: &Reply) -> Result<String, Trouble> {
+    if reply.at == 5 {
+        Ok(told(alloc, reply)?)
+    } else {
+        Err(Trouble::Case("another place"))
+    }
+}
+
 /// The status and the text of the reply for a cause.
 pub fn why(alloc: Global, words: &str) -> Result<String, Trouble> {
-    let reply = reply_of(alloc, words)?;
-    if reply.at != 5 {
-        return Err(Trouble::Case("another place"));
+    match reply_of(alloc, words) {
+        Ok(reply) => {
+            let told = told_there(alloc, &reply);
+            drop(reply);
+            told
+        }
+        Err(trouble) => Err(trouble),
     }
-    Ok(told(alloc, &reply)?)
 }
 
 fn text_of(alloc: Global, bytes: &[u8]) -> Result<String, Trouble> {
@@ -273,14 +279,29 @@ fn text_of(alloc: Global, bytes: &[u8]) -> Result<String, Trouble> {
     }
 }
 
-/// The bytes of a reply, `keep` or `close` first; those that take no memory are the same.
-pub fn bytes(alloc: Global, words: &str) -> Result<String, Trouble> {
-    let (end, words) = cut(words);
-    let close = end == "close";
-    let reply = reply_of(alloc, words)?;
-    let made = text_of(alloc, reply_bytes(alloc, &reply, close)?.as_slice())?;
-    match fixed_bytes(&reply, close) {
+/// The bytes of a reply as a text.
+fn made_text(alloc: Global, reply: &Reply, close: bool) -> Result<String, Trouble> {
+    text_of(alloc, reply_bytes(alloc, reply, close)?.as_slice())
+}
+
+/// The bytes of a reply; those that take no memory are the same.
+fn bytes_told(alloc: Global, reply: &Reply, close: bool) -> Result<String, Trouble> {
+    let made = made_text(alloc, reply, close)?;
+    match fixed_bytes(reply, close) {
         Some(bytes) => in_both_ways(alloc, made, text_of(alloc, bytes), "without memory"),
         None => Ok(made),
+    }
+}
+
+/// The bytes of a reply, `keep` or `close` first.
+pub fn bytes(alloc: Global, words: &str) -> Result<String, Trouble> {
+    let (end, words) = cut(words);
+    match reply_of(alloc, words) {
+        Ok(reply) => {
+            let told = bytes_told(alloc, &reply, end == "close");
+            drop(reply);
+            told
+        }
+        Err(trouble) => Err(trouble),
     }
 }

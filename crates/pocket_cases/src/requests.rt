@@ -1,7 +1,6 @@
 // Calls over requests: the bytes of heads and bodies, and the phrases of statuses.
 use crate::calls::push_pairs;
-use crate::texts::in_both_ways;
-use crate::trouble::Trouble;
+use pocket_cases_text::{Trouble, in_both_ways};
 use pocket_types::Seq;
 use pocket_wire::{Inbox, MemorySource, Next, Request, WireFault, next_request, status_phrase};
 use std::alloc::{AllocError, Global};
@@ -31,15 +30,10 @@ fn told(alloc: Global, answer: Result<Next, WireFault>) -> Result<String, AllocE
     }
 }
 
-/// Bytes in pieces of at most so many. Of the reads those with these numbers fail.
-pub fn source_of(
-    alloc: Global,
-    bytes: &[u8],
-    piece: usize,
-    failing: Vec<u64>,
-) -> Result<MemorySource, AllocError> {
+/// Bytes in pieces of at most so many.
+fn source_of(alloc: Global, bytes: &[u8], piece: usize) -> Result<MemorySource, AllocError> {
     let bytes = Seq::from_vec(bytes.to_vec(alloc)?);
-    Ok(MemorySource::new(bytes, piece.max(1), failing))
+    Ok(MemorySource::new(bytes, piece.max(1), Vec::new(alloc)))
 }
 
 /// Whether another request may follow.
@@ -68,7 +62,7 @@ fn told_from(alloc: Global, mut source: MemorySource) -> Result<String, AllocErr
 
 /// What these bytes are, in pieces of at most so many.
 fn told_in(alloc: Global, bytes: &[u8], piece: usize) -> Result<String, Trouble> {
-    Ok(told_from(alloc, source_of(alloc, bytes, piece, Vec::new(alloc))?)?)
+    Ok(told_from(alloc, source_of(alloc, bytes, piece)?)?)
 }
 
 /// What these bytes are, in pieces of any size.

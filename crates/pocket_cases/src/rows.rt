@@ -1,49 +1,13 @@
 // Calls over kept rows, each read alone.
 ghost use Rattle.pocket_types.specs.Sound.{IsSoundCollection};
 
-use crate::given::Given;
 use crate::schemas::collections_of;
-use crate::trouble::Trouble;
-use pocket_keeper::{KeptRow, MemoryKeeper, Token, row_of_token, split_rec_key};
+use pocket_cases_text::{Given, Trouble, push_row, row_of_line};
+use pocket_keeper::{KeptRow, Token, row_of_token, split_rec_key};
 use pocket_ops::{collection_jv, has_own_names, kept_jv, rec_jv, row_len};
 use pocket_rows::{collection_of_row, rec_of_row, token_of_row};
-use pocket_types::{Collection, Jv, Rec, Seq, Text};
+use pocket_types::{Collection, Jv, Rec};
 use std::alloc::{AllocError, Global};
-
-/// The row of a line: its key, a space and its value.
-pub fn row_of_line(alloc: Global, line: &str) -> Result<KeptRow, AllocError> {
-    let (key, value) = line.split_once(' ').unwrap_or((line, ""));
-    Ok(KeptRow {
-        key: Text::from_str(alloc, key)?,
-        value: Text::from_str(alloc, value)?,
-    })
-}
-
-/// The rows of lines. An empty line is none.
-pub fn rows_of_lines(alloc: Global, lines: &str) -> Result<Seq<KeptRow>, AllocError> {
-    let mut rows = Seq::new(alloc);
-    for line in lines.lines().filter(|line| !line.is_empty()) {
-        rows.push(row_of_line(alloc, line)?)?;
-    }
-    Ok(rows)
-}
-
-/// A keeper with the rows of these lines. Of its calls these fail.
-pub fn keeper_of_lines(
-    alloc: Global,
-    lines: &str,
-    failing: Vec<u64>,
-) -> Result<MemoryKeeper, AllocError> {
-    MemoryKeeper::new(alloc, rows_of_lines(alloc, lines)?, failing)
-}
-
-/// Adds the line of a row.
-pub fn push_row(lines: &mut String, row: &KeptRow) -> Result<(), AllocError> {
-    lines.push_str(row.key.as_str())?;
-    lines.push(' ')?;
-    lines.push_str(row.value.as_str())?;
-    lines.push('\n')
-}
 
 /// The collection's name and the id in a record's key, or `none`.
 pub fn key(alloc: Global, text: &str) -> Result<String, Trouble> {

@@ -1,12 +1,7 @@
 // Collections from short texts.
-use crate::trouble::Trouble;
-use pocket_types::{Collection, Field, Kind, Name, Rule, Seq};
+use pocket_cases_text::{Trouble, name_of};
+use pocket_types::{Collection, Field, Kind, Rule, Seq};
 use std::alloc::Global;
-
-/// The name of a text.
-pub fn name_of(alloc: Global, text: &str) -> Result<Name, Trouble> {
-    Name::read(alloc, text).ok().ok_or(Trouble::Case("no name"))
-}
 
 fn relation(alloc: Global, target: &str, most: u32) -> Result<Kind, Trouble> {
     Ok(Kind::Relation {

@@ -1,16 +1,13 @@
 // Calls over whole stores.
 ghost use Rattle.std.specs.Prelude.{IfOk};
 ghost use Rattle.pocket_keeper.specs.Rows.{IsRising};
-ghost use Rattle.pocket_store.specs.SoundStates.{IsSoundWorld};
 
-use crate::given::{Given, numbered};
-use crate::rows::{keeper_of_lines, push_row, row_of_line, rows_of_lines};
-use crate::trouble::Trouble;
+use pocket_cases_text::{Given, Trouble, keeper_of_lines, numbered, push_row, row_of_line};
 use pocket_keeper::{
     Committer, Keeper, KeptRow, MemoryKeeper, row_of_collection, row_of_rec, row_of_token,
 };
 use pocket_store::{StoreFault, Stored, stored_of};
-use pocket_types::{Seq, Shelf, Text, World};
+use pocket_types::{Seq, Shelf, Text};
 use std::alloc::{AllocError, Global};
 
 /// The rows of these lines, rising by key.
@@ -24,18 +21,6 @@ fn loaded(alloc: Global, lines: &str) -> Result<Seq<KeptRow>, Trouble>
 /// What the rows of these lines stand for.
 fn stored_lines(alloc: Global, lines: &str) -> Result<Stored, Trouble> {
     Ok(stored_of(alloc, &loaded(alloc, lines)?)?)
-}
-
-/// The world that the rows of these lines stand for.
-pub fn world_of_lines(alloc: Global, lines: &str) -> Result<World, Trouble>
-    ensures { IfOk result IsSoundWorld }
-{
-    Ok(stored_of(alloc, &loaded(alloc, lines)?)?.world)
-}
-
-/// The shelves of that world.
-pub fn shelves_of_lines(alloc: Global, lines: &str) -> Result<Vec<Shelf>, Trouble> {
-    Ok(world_of_lines(alloc, lines)?.shelves.into_vec())
 }
 
 /// Why rows stand for nothing: `bad` and the key of the first bad one.

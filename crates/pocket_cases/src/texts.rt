@@ -1,27 +1,12 @@
 // Calls over texts: names, ids, moments and JSON.
-use crate::trouble::Trouble;
 use crate::values::moment_text;
+use pocket_cases_text::Trouble;
 use pocket_json::{JsonFault, read_jv};
 use pocket_types::{Id, Jv, Moment, Name, Text};
 use std::alloc::{AllocError, Global};
 
 fn told(alloc: Global, good: bool) -> Result<String, Trouble> {
     Ok(String::from_str(alloc, if good { "ok" } else { "refused" })?)
-}
-
-/// The outcome, where the same came in another way, else both.
-pub fn in_both_ways(
-    alloc: Global,
-    outcome: String,
-    found: Result<String, Trouble>,
-    way: &str,
-) -> Result<String, Trouble> {
-    let found = found?;
-    if found == outcome {
-        Ok(outcome)
-    } else {
-        Ok(format!(in alloc; "{outcome}, but {found} {way}")?)
-    }
 }
 
 /// Whether a text is a name.

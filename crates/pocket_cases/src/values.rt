@@ -1,40 +1,11 @@
 // Calls over values: comparison, likeness, cells, the choice of fields, dates and macros.
-use crate::trouble::Trouble;
+use pocket_cases_text::{Trouble, told_flag, value_of};
 use pocket_json::{choose, read_jv};
 use pocket_ops::{
     cell_value, compare, count_value, date_read, date_text, like, lowered_value, macro_value,
 };
 use pocket_types::{Cell, Field, Id, Kind, Macro, Moment, Name, Op, Seq, Text, Value};
 use std::alloc::{AllocError, Global};
-
-/// The value of a number's digits.
-fn number_of(word: &str) -> Result<Value, Trouble> {
-    match word.parse::<i64>() {
-        Ok(number) => Ok(Value::Num(number)),
-        Err(_) => Err(Trouble::Case("no value")),
-    }
-}
-
-/// The value of a text that is followed by a double quote.
-fn text_of(alloc: Global, rest: &str) -> Result<Value, Trouble> {
-    match rest.strip_suffix('"') {
-        Some(text) => Ok(Value::Text(Text::from_str(alloc, text)?)),
-        None => Err(Trouble::Case("no closing quote")),
-    }
-}
-
-/// The value of a word: `nothing`, a number, `true`, `false`, or a text between double quotes.
-pub fn value_of(alloc: Global, word: &str) -> Result<Value, Trouble> {
-    match word {
-        "nothing" => Ok(Value::Nothing),
-        "true" => Ok(Value::Flag(true)),
-        "false" => Ok(Value::Flag(false)),
-        _ => match word.strip_prefix('"') {
-            Some(rest) => text_of(alloc, rest),
-            None => number_of(word),
-        },
-    }
-}
 
 /// The word of a value.
 fn word_of(alloc: Global, value: &Value) -> Result<String, AllocError> {
@@ -75,11 +46,6 @@ pub fn compared(alloc: Global, text: &str) -> Result<String, Trouble> {
     let left = value_of(alloc, left)?;
     let right = value_of(alloc, right)?;
     Ok(signs_of(alloc, &left, &right)?)
-}
-
-/// A flag as `true` or `false`.
-pub fn told_flag(alloc: Global, flag: bool) -> Result<String, Trouble> {
-    Ok(format!(in alloc; "{flag}")?)
 }
 
 /// Whether `VALUE ~ PATTERN` is true.
