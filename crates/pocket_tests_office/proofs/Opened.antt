@@ -3,7 +3,7 @@ use Rattle.std.proofs.Common.{ℕ, List, Option, Some, None, subst, sym}
 use Rattle.pocket_keeper.specs.declared.rows.KeptRow.{KeptRow}
 use Rattle.pocket_core.specs.Answers.{after}
 use Rattle.pocket_core.specs.Opening.{AreRowsOf, IsOpened}
-use Rattle.pocket_core.specs.States.{StateView}
+use Rattle.pocket_states.specs.States.{StateView}
 
 rows_opened : (rows : Option (List KeptRow)) (admin : List ℕ) (s : StateView) → IsOpened rows admin s → AreRowsOf rows s.opening
 rows_opened None admin s opened = tt

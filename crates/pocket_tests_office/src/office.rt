@@ -1,8 +1,8 @@
 // A desk over a state and its keeper.
-ghost use Rattle.std.specs.Prelude.{◌≡◌, ◌<◌, ◌⊎◌, [], IfOk, IfSome, length};
+ghost use Rattle.std.specs.Prelude.{◌≡◌, ◌<◌, [], IfOk, IfSome};
 ghost use Rattle.pocket_desk.specs.Pass.{IsOf};
-ghost use Rattle.pocket_api.specs.Refusals.{IsNoMemory};
-ghost use Rattle.pocket_core.specs.Answers.{EntersWork, IsAnswer, IsHistoryAfter, answer};
+ghost use Rattle.pocket_core.specs.Answers.{IsHistoryAfter, answer};
+ghost use Rattle.pocket_core.specs.Entering.{IsReply};
 
 use pocket::sample_rows;
 use pocket_api::{Call, Draw, Reply, Shown, Target, Work};
@@ -29,7 +29,7 @@ impl Model for Office {
     ghost use Rattle.pocket_types.specs.contracts.json.Jv as jv;
     ghost use Rattle.pocket_core.specs.Answers.{after};
     ghost use Rattle.pocket_core.specs.Opening.{AreRowsOf};
-    ghost use Rattle.pocket_core.specs.States.{StateView};
+    ghost use Rattle.pocket_states.specs.States.{StateView};
 
     ghost Value = { StateView };
 
@@ -41,10 +41,9 @@ impl Model for Office {
 }
 
 impl Machine for Office {
-    ghost use Rattle.std.specs.Prelude.{◌≡◌, ◌⊎◌, List, ℕ, length};
-    ghost use Rattle.pocket_api.specs.Refusals.{IsNoMemory};
-    ghost use Rattle.pocket_core.specs.Answers.{EntersWork, IsAnswer, answer};
-    ghost use Rattle.pocket_core.specs.States.{MachineState};
+    ghost use Rattle.pocket_core.specs.Answers.{EntersWork, answer};
+    ghost use Rattle.pocket_core.specs.Entering.{IsReply};
+    ghost use Rattle.pocket_states.specs.States.{MachineState};
 
     type Work = Work;
 
@@ -58,8 +57,7 @@ impl Machine for Office {
 
     ghost faults = { λ _. 0 };
 
-    ghost fits = { λ opening history work reply _.
-        IsAnswer (answer opening history work) reply ⊎ IsNoMemory (length history) reply };
+    ghost fits = { λ opening history work reply _. IsReply opening history work reply };
 
     ghost enters = { λ opening history work reply. EntersWork (answer opening history work) reply };
 
@@ -77,8 +75,7 @@ fn serve_in<L: Ledger>(office: &mut Office, work: Work, blank: Blank) -> Reply
     requires name { blank.name ≡ L.name }
     requires parts { blank.parts ≡ L.parts }
     requires some { 0 < L.parts }
-    ensures reply { IsAnswer (answer office.old.opening office.old.journal work) result
-        ⊎ IsNoMemory (length office.old.journal) result }
+    ensures reply { IsReply office.old.opening office.old.journal work result }
     ensures history { IsHistoryAfter (answer office.old.opening office.old.journal work) result work office.old.journal office.new.journal }
     ensures opening { office.new.opening ≡ office.old.opening }
 {
