@@ -17,11 +17,11 @@ use std::sync::Wait;
 ///
 /// Contracts see it as its `name` and the machine as it was when it was `opened`. It isn't dropped: `close`
 /// gives the machine back.
-pub struct Desk<M: Machine + Send> {
+pub struct Desk<M: Machine> {
     table: Table<Option<M>, View<M, M::Work, M::Reply>, Snapshot<M>, LockRule<M>, Global>,
 }
 
-impl<M: Machine + Send> Model for Desk<M> {
+impl<M: Machine> Model for Desk<M> {
     ghost use Rattle.std.specs.Prelude.{◌≡◌};
     ghost use Rattle.pocket_desk.specs.Pass.{DeskView, desk_name};
 
@@ -39,11 +39,11 @@ impl<M: Machine + Send> Model for Desk<M> {
 /// works that are `mine`, which came by it and were entered, and all its `calls`. A desk is closed with
 /// a pass, so keep the last one.
 #[derive(Drop)]
-pub struct Pass<M: Machine + Send> {
+pub struct Pass<M: Machine> {
     seat: LockSeat<M>,
 }
 
-impl<M: Machine + Send> Model for Pass<M> {
+impl<M: Machine> Model for Pass<M> {
     ghost use Rattle.pocket_desk.specs.Pass.{PassView, pass_view, IsPass};
 
     ghost Value = { PassView M M.Work M.Reply };
@@ -66,7 +66,7 @@ fn one_slot<M: Machine>(alloc: Global, machine: M) -> Result<Vec<Option<M>>, M>
     Ok(slots)
 }
 
-impl<M: Machine + Send> Desk<M> {
+impl<M: Machine> Desk<M> {
     /// Opens a desk, with the first pass to it. Where there is no memory, the machine comes back.
     pub fn start(alloc: Global, machine: M) -> Result<(Desk<M>, Pass<M>), (AllocError, M)>
         requires { M.history machine ≡ [] }
