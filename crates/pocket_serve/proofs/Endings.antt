@@ -76,7 +76,7 @@ words-append : (one two : List Draw) → words_of (one ++ two) ≡ words_of one 
 words-append [] two = refl
 words-append (draw ∷ one) two = ap (λ l. draw.words ++ l) (words-append one two) ∙ sym (append_assoc draw.words (words_of one) (words_of two))
 
-drawn_through : (m0 m1 m2 : Option (List Moment)) (w0 w1 w2 : Option (List ℕ)) (one two : List Draw) → AreDrawn m0 m1 w0 w1 one → AreDrawn m1 m2 w1 w2 two
+pub drawn_through : (m0 m1 m2 : Option (List Moment)) (w0 w1 w2 : Option (List ℕ)) (one two : List Draw) → AreDrawn m0 m1 w0 w1 one → AreDrawn m1 m2 w1 w2 two
     → AreDrawn m0 m2 w0 w2 (one ++ two)
 drawn_through m0 m1 m2 w0 w1 w2 one two a b = record {
   told_moments = subst (λ l. AddsAnswers m0 m2 l) (sym (map-append (λ (draw : Draw). draw.moment) one two)) (adds_through m0 m1 m2 (moments_of one) (moments_of two) a.told_moments b.told_moments);

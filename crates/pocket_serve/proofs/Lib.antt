@@ -1,6 +1,9 @@
+pub mod Desks
 pub mod Endings
 pub mod Extension
+pub mod Links
 pub mod Owned
 pub mod Rising
 pub mod Sent
 pub mod UnderWay
+pub mod Worked

@@ -10,7 +10,7 @@ use Rattle.pocket_desk.specs.View.{call_of}
 use Rattle.pocket_serve.specs.Owners.{Alone}
 use Rattle.pocket_serve.specs.Sessions.{IsCallFrom}
 
-get_seam : {A : Type 0} (xs : List A) (x : A) → slice_get (xs ++ x ∷ []) (length xs) ≡ Some x
+pub get_seam : {A : Type 0} (xs : List A) (x : A) → slice_get (xs ++ x ∷ []) (length xs) ≡ Some x
 get_seam [] x = refl
 get_seam (y ∷ xs) x = get_seam xs x
 

@@ -1,8 +1,15 @@
+pub mod Accepting
 pub mod Drawing
+pub mod Entered
 pub mod Growing
+pub mod Hands
 pub mod Laws
+pub mod Memory
 pub mod Owners
+pub mod PassLaws
+pub mod Passes
 pub mod Positions
 pub mod Sending
 pub mod Serving
 pub mod Sessions
+pub mod Workers
