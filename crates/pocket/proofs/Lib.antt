@@ -1,3 +1,2 @@
-pub mod WordLemmas
 pub mod CallLemmas
 pub mod KeeperLemmas

@@ -6,16 +6,21 @@ use Rattle.pocket_wire.specs.declared.request.Ended.{Ended}
 use Rattle.pocket_api.specs.declared.reply.Reply.{Reply}
 use Rattle.pocket_api.specs.declared.work.Work.{Work}
 use Rattle.pocket_desk.specs.declared.view.Call.{Call}
-use Rattle.pocket_serve.specs.Owners.{Alone}
+use Rattle.pocket_serve.specs.Owners.{Alone, SharedFits}
 use Rattle.pocket_serve.specs.Sessions.{IsSession}
 use Rattle.pocket_core.specs.Answers.{EntersWork, answer}
 use Rattle.pocket_core.specs.Entering.{IsCounted, IsReply}
 use Rattle.pocket_states.specs.States.{MachineState}
+use Rattle.pocket_office.specs.Offices.{IsOfficeReply}
 use Rattle.pocket.specs.declared.status.Turn.{Turn}
 
 -- a reply to a work after a history from an opened state: the machine's answer, that memory is wanting, or that the keeper failed
 abbrev pub StateFits : MachineState → List Work → Work → Reply → Type 0
 StateFits = IsReply
+
+-- a reply at a desk, which doesn't tell whether the keeper's count rose
+abbrev pub OfficeFits : MachineState → List Work → Work → Reply → Type 0
+OfficeFits opening = SharedFits (IsOfficeReply opening)
 
 -- it enters the work
 abbrev pub StateEnters : MachineState → List Work → Work → Reply → Type 0

@@ -1,5 +1,7 @@
 -- The exit statuses.
-use Rattle.std.specs.Prelude.{ℕ}
+use Rattle.std.specs.Prelude.{ℕ, Bool, List, if◌then◌else◌}
+use Rattle.std.specs.List.{list_any}
+use Rattle.pocket_serve.specs.declared.hand.WorkerEnd.{WorkerEnd}
 use Rattle.pocket_wire.specs.declared.request.Ended.{Ended}
 use Rattle.pocket_wire.specs.declared.request.Ended.TheVariants as ended
 use Rattle.pocket.specs.declared.status.RunEnd.{RunEnd}
@@ -28,3 +30,12 @@ exit_status (run.BadStore key) = 6
 exit_status run.BadInput = 7
 exit_status run.Memory = 10
 exit_status run.NotEmpty = 11
+
+-- whether a worker ended for its acceptor
+abbrev pub is_faulted : WorkerEnd → Bool
+is_faulted worker = worker.faulted
+
+-- of a server
+abbrev pub serve_exit : RunEnd → List WorkerEnd → ℕ
+serve_exit (run.Session ended.Done) workers = if list_any is_faulted workers then 12 else 0
+serve_exit started workers = exit_status started

@@ -13,7 +13,7 @@ ghost use Rattle.pocket_core.specs.Answers.{after};
 ghost use Rattle.pocket_core.specs.Opening.{AreRowsOf};
 ghost use Rattle.pocket_states.specs.States.{MachineState};
 ghost use Rattle.pocket.specs.Calls.{IsKeptOver, IsOwnSession, turns_of};
-ghost use Rattle.pocket.specs.Runs.{IsOpeningOf, IsPipeEnd, OnPipe, OnSession, OnUnopened, end_of};
+ghost use Rattle.pocket.specs.Runs.{AreRead, IsOpeningFor, IsPipeEnd, OnPipe, OnSession, OnUnopened, end_of, word_end_of};
 ghost use Rattle.pocket.specs.Words.{IsPipe};
 
 use crate::service::StateService;
@@ -22,8 +22,9 @@ use crate::words::pipe_token;
 use pocket_core::{StartFault, State};
 use pocket_keeper::{Committer, Keeper};
 use pocket_serve::{Outside, run_session};
-use pocket_types::{Seq, Steps, Text};
+use pocket_types::{Seq, Steps};
 use pocket_wire::{Clock, Dice, Sink, Source};
+use pocket_words::WordFault;
 use std::alloc::Global;
 use std::marker::{Brand, PhantomData};
 use std::sync::ledger::{Blank, Ledger};
@@ -41,7 +42,16 @@ fn unopened(alloc: Global, ended: RunEnd) -> Status
     }
 }
 
-fn start_end(fault: StartFault) -> RunEnd
+pub(crate) fn word_end(fault: WordFault) -> RunEnd
+    ensures { result ≡ word_end_of fault }
+{
+    match fault {
+        WordFault::BadWords => RunEnd::Words,
+        WordFault::Memory => RunEnd::Memory,
+    }
+}
+
+pub(crate) fn start_end(fault: StartFault) -> RunEnd
     ensures { result ≡ end_of fault }
 {
     match fault {
@@ -109,9 +119,9 @@ fn run_opened<S: Source, O: Sink, K: Committer, C: Clock, D: Dice, L: Ledger>(
     }
 }
 
-/// Runs the program that the words name, over bytes, a keeper, a clock and dice. So far that is `pipe --admin TOKEN --sample`, which
-/// answers the requests of the source on the sink, one after the other. It returns for every input.
-#[tactic(auto, using(crate::proofs::KeeperLemmas::as_they_were, crate::proofs::KeeperLemmas::pipe_end))]
+/// Runs the program that the words name, over bytes, a keeper, a clock and dice. So far that is `pipe`, which answers the requests of the
+/// source on the sink, one after the other; the words of other programs aren't good here. It returns for every input.
+#[tactic(auto, using(crate::proofs::KeeperLemmas::as_they_were, crate::proofs::KeeperLemmas::opening_end, crate::proofs::KeeperLemmas::word_read, crate::proofs::KeeperLemmas::bad_words, crate::proofs::KeeperLemmas::named))]
 pub fn run_plain<S: Source, O: Sink, K: Keeper, C: Clock, D: Dice>(
     alloc: Global,
     words: &[String],
@@ -121,8 +131,8 @@ pub fn run_plain<S: Source, O: Sink, K: Keeper, C: Clock, D: Dice>(
     clock: &mut C,
     dice: &mut D,
 ) -> Status
-    // The words are refused exactly where they aren't good, and each other end has its cause.
-    ensures words { result.ended ≡ RunEnd.Words ⊎ ((token : List ℕ) × IsPipe (map string_bytes words.now) token) }
+    // The words are refused exactly where they aren't good, if memory isn't wanting, and each other end has its cause.
+    ensures words { AreRead (IsPipe (map string_bytes words.now)) result.ended }
     ensures ended { IsPipeEnd (map string_bytes words.now) (K.rows keeper.old) (K.rows keeper.new) (K.faults keeper.old) (K.faults keeper.new) result.ended }
 
     // `pipe`: from the state that the rows told at first stand for, the turns and the accepted commands are those of a session over
@@ -130,7 +140,7 @@ pub fn run_plain<S: Source, O: Sink, K: Keeper, C: Clock, D: Dice>(
     // the end, also after a fault, are those of the state after the accepted commands; and the keeper's count rose by at least the number
     // of replies 500, or stands at its end.
     ensures session { OnPipe (map string_bytes words.now) (OnSession result.ended (λ ended. (opening : MachineState)
-        × IsOpeningOf (map string_bytes words.now) (K.rows keeper.old) (K.rows keeper.new) opening
+        × IsOpeningFor (IsPipe (map string_bytes words.now)) (K.rows keeper.old) (K.rows keeper.new) opening
         × (calls : List (Call Work Reply)) × (bytes : List ℕ) × (said : List ℕ) × (last : List ℕ)
         × Consumes (S.left source.old) (S.left source.new) bytes
         × (result.turns ≡ turns_of calls)
@@ -155,11 +165,9 @@ pub fn run_plain<S: Source, O: Sink, K: Keeper, C: Clock, D: Dice>(
     ensures source_count { S.faults source.old ≤ S.faults source.new }
     ensures sink_count { O.faults sink.old ≤ O.faults sink.new }
 {
-    let Some(token) = pipe_token(words) else {
-        return unopened(alloc, RunEnd::Words);
-    };
-    let Ok(admin) = Text::from_str(alloc, token) else {
-        return unopened(alloc, RunEnd::Memory);
+    let admin = match pipe_token(alloc, words) {
+        Ok(admin) => admin,
+        Err(fault) => return unopened(alloc, word_end(fault)),
     };
     match State::load(alloc, keeper, admin) {
         Ok(state) => run_opened::<S, O, K, C, D, Brand>(

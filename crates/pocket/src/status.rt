@@ -1,7 +1,9 @@
 ghost use Rattle.std.specs.Prelude.{◌≡◌};
-ghost use Rattle.pocket.specs.Exits.{session_exit};
+ghost use Rattle.std.specs.List.{list_any};
+ghost use Rattle.pocket.specs.Exits.{is_faulted, session_exit};
 
 use pocket_api::{Draw, Work};
+use pocket_serve::WorkerEnd;
 use pocket_types::{Seq, Text};
 use pocket_wire::Ended;
 use std::fmt;
@@ -44,6 +46,15 @@ pub struct Status {
     pub journal: Seq<Work>,
 }
 
+/// How a server ended.
+#[derive(Drop)]
+pub struct ServeStatus {
+    /// `Session(Done)` where the desk was opened and every worker ended, and else why nothing was served.
+    pub started: RunEnd,
+    /// How each worker ended, in the order of the hands. None where nothing was served.
+    pub workers: Seq<WorkerEnd>,
+}
+
 fn session_code(ended: Ended) -> u8
     ensures { result ≡ session_exit ended }
 {
@@ -76,6 +87,27 @@ impl RunEnd {
             RunEnd::BadInput => 7,
             RunEnd::Memory => 10,
             RunEnd::NotEmpty => 11,
+        }
+    }
+}
+
+fn has_faulted(workers: &[WorkerEnd]) -> bool
+    ensures { result ≡ list_any is_faulted workers.now }
+{
+    workers.iter().any(|worker| worker.faulted)
+}
+
+impl ServeStatus {
+    ghost use Rattle.pocket.specs.Exits.{serve_exit};
+
+    /// The exit status: that of `started`, or 12 where it was started and the acceptor of a worker failed.
+    pub fn code(&self) -> u8
+        ensures { result ≡ serve_exit self.now.started self.now.workers }
+    {
+        let faulted = has_faulted(self.workers.as_slice());
+        match self.started {
+            RunEnd::Session(Ended::Done) if faulted => 12,
+            _ => self.started.code(),
         }
     }
 }
