@@ -1,0 +1,195 @@
+// Connections in memory that another thread can watch.
+ghost use Rattle.std.specs.Prelude.{◌<◌, None, ⊤};
+ghost use Rattle.pocket_tests_serve.specs.Links.{few_of, left_of};
+
+use pocket_serve::{Acceptor, Gate};
+use pocket_types::{Failed, Seq};
+use pocket_wire::{Ended, Link, MemorySink, MemorySource, Sink, Source};
+use std::alloc::Global;
+use std::sync::atomic::{AtomicBool, Ordering};
+use std::thread;
+
+// How often a flag is looked at before it counts as never set.
+const LOOKS: u32 = 10_000_000;
+
+/// Waits until the flag is set. Whether it was.
+pub(crate) fn wait_for(flag: &AtomicBool) -> bool {
+    for _ in 0..LOOKS {
+        if flag.load(Ordering::SeqCst) {
+            return true;
+        }
+        thread::yield_now();
+    }
+    false
+}
+
+/// Two flags: whether the watched connection has taken bytes of a reply, and whether what waits for that saw it.
+#[derive(Drop)]
+pub(crate) struct Watch {
+    pub(crate) answered: AtomicBool,
+    pub(crate) seen: AtomicBool,
+}
+
+impl Watch {
+    pub(crate) fn new() -> Watch {
+        Watch {
+            answered: AtomicBool::new(false),
+            seen: AtomicBool::new(false),
+        }
+    }
+
+    fn hold(&self) {
+        if wait_for(&self.answered) {
+            self.seen.store(true, Ordering::SeqCst);
+        }
+    }
+
+    /// Whether what waited saw the reply.
+    pub(crate) fn was_seen(&self) -> bool {
+        self.seen.load(Ordering::SeqCst)
+    }
+}
+
+/// Holds the first call of the first worker until the watched connection is answered.
+#[derive(Drop)]
+pub(crate) struct HoldingGate<'w> {
+    pub(crate) watch: &'w Watch,
+}
+
+impl Gate for HoldingGate<'_> {
+    fn before(&self, worker: u64, request: u64) {
+        if worker == 0 && request == 0 {
+            self.watch.hold();
+        }
+    }
+}
+
+/// What a connection does beside giving and taking bytes.
+#[derive(Clone, Copy, PartialEq, Eq)]
+pub(crate) enum Part {
+    /// Nothing.
+    Plain,
+    /// Its first reply is told.
+    Watched,
+    /// Its second read waits until the watched connection is answered.
+    Held,
+}
+
+/// A connection in memory. It tells nothing.
+#[derive(Drop)]
+pub(crate) struct WatchedLink<'w> {
+    source: MemorySource,
+    sink: MemorySink,
+    part: Part,
+    reads: u64,
+    watch: &'w Watch,
+}
+
+impl Source for WatchedLink<'_> {
+    ghost left = { λ _. None };
+
+    ghost faults = { λ link. ⟦<MemorySource as Source>⟧.faults link.source };
+
+    ghost untouched = { λ link. (None, ⟦<MemorySink as Sink>⟧.faults link.sink) };
+
+    fn read(&mut self, buffer: &mut [u8]) -> Result<usize, Failed> {
+        if self.part == Part::Held && self.reads == 1 {
+            self.watch.hold();
+        }
+        self.reads = self.reads.saturating_add(1);
+        self.source.read(buffer)
+    }
+}
+
+impl Sink for WatchedLink<'_> {
+    ghost taken = { λ _. None };
+
+    ghost faults = { λ link. ⟦<MemorySink as Sink>⟧.faults link.sink };
+
+    ghost untouched = { λ link. (None, ⟦<MemorySource as Source>⟧.faults link.source) };
+
+    fn write(&mut self, piece: &[u8]) -> Result<usize, Failed> {
+        let written = self.sink.write(piece);
+        if self.part == Part::Watched {
+            self.watch.answered.store(true, Ordering::SeqCst);
+        }
+        written
+    }
+}
+
+impl Link for WatchedLink<'_> {
+    ghost use Rattle.std.specs.Prelude.{refl};
+
+    ghost read_apart = { λ _. refl };
+
+    ghost write_apart = { λ _. refl };
+}
+
+/// Gives one connection.
+#[derive(Drop)]
+pub(crate) struct OneAcceptor<'w> {
+    alloc: Global,
+    bytes: Option<Seq<u8>>,
+    piece: usize,
+    part: Part,
+    watch: &'w Watch,
+    ended: Option<WatchedLink<'w>>,
+    ghost some: { 0 < piece },
+}
+
+impl<'w> OneAcceptor<'w> {
+    /// Of these bytes, in pieces of at most `piece`.
+    pub(crate) fn new(
+        alloc: Global,
+        bytes: Seq<u8>,
+        piece: usize,
+        part: Part,
+        watch: &'w Watch,
+    ) -> OneAcceptor<'w>
+        requires { 0 < piece }
+    {
+        OneAcceptor {
+            alloc,
+            bytes: Some(bytes),
+            piece,
+            part,
+            watch,
+            ended: None,
+        }
+    }
+
+    /// What the connection took until it ended.
+    pub(crate) fn sent(&self) -> &[u8] {
+        match &self.ended {
+            Some(link) => link.sink.bytes(),
+            None => &[],
+        }
+    }
+}
+
+impl<'w> Acceptor for OneAcceptor<'w> {
+    type Link = WatchedLink<'w>;
+
+    ghost told = { λ acceptor. record { waiting = left_of acceptor.bytes; inputs = None; finished = None; faults = 0 } };
+
+    ghost has_place = { λ _. ⊤ };
+
+    ghost few = { λ acceptor. few_of acceptor.bytes };
+
+    fn accept(&mut self) -> Result<Option<WatchedLink<'w>>, Failed> {
+        let Some(bytes) = self.bytes.take() else {
+            return Ok(None);
+        };
+        Ok(Some(WatchedLink {
+            source: MemorySource::new(bytes, self.piece, Vec::new(self.alloc)),
+            sink: MemorySink::new(Seq::new(self.alloc), Vec::new(self.alloc)),
+            part: self.part,
+            reads: 0,
+            watch: self.watch,
+        }))
+    }
+
+    fn finish(&mut self, link: WatchedLink<'w>, _ended: Ended) {
+        self.ended = Some(link);
+    }
+}
