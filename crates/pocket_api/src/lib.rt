@@ -1,8 +1,12 @@
-//! What requests call for, and the bytes of replies.
+//! What stands between bytes and the machine: the work that a request calls for, and the bytes of a reply.
 //!
-//! `specs/Works.antt` says which work a request is, over the tables of routes in `specs/Routes.antt` and the queries of
-//! `specs/Queries.antt`; `specs/Asks.antt` says what rules see of it. `specs/Refusals.antt` says what each cause of a reply tells the
-//! caller, and `specs/Replies.antt` the bytes.
+//! `specs/Works` says which work a request is, one function of the request and its draw, over the routes of
+//! `specs/Routes` and the queries of `specs/Queries`; `specs/Asks` says what rules see of a work. `specs/Refusals` has
+//! each cause of a reply with its status and what it tells the caller, and `specs/Replies` the bytes.
+//!
+//! The types have all that later calls need: a call that the machine doesn't answer yet is read all the same, so that
+//! each later call changes the machine alone. A body stands in a work as a `Body`, which contracts see as its tree;
+//! that the tree is of the profile is its invariant.
 #![tactic(auto)]
 
 mod body;

@@ -1,4 +1,5 @@
-//! Tries the lower libraries from texts: each case of a file is a call with its arguments and what has to come of it.
+//! Tries the lower libraries from texts (`pocket_cases_text` says how they are written). One file alone: `rt run &&
+//! out/pocket_cases data/likeness.txt`.
 #![tactic(auto)]
 
 mod calls;

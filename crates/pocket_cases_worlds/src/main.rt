@@ -1,4 +1,5 @@
-//! Tries tables, plans and rules from texts: each case of a file is a question to the world that it is given, and what has to come of it.
+//! Tries tables, plans and rules from texts: each case is a question to the world that it is given, and what has to
+//! come of it.
 #![tactic(auto)]
 
 mod askers;

@@ -1,10 +1,16 @@
 //! The bodies of records, and what is wrong with a record.
 //!
-//! `specs/Cells.antt` says which cell a value of JSON is, `specs/Bodies.antt` which fields a body sends and with which cells, and
-//! `specs/Validity.antt` what is wrong with a record in a world. `read_body` gives what a body sends over a record's cells, or over those of
-//! `zero_cells` in a creation, and `given_id` the id that it gives to a new record. A body is read once, field by field, and a field's changes
-//! are applied as they are read (`specs/Changes.antt`), which comes to the same. `faults` judges a record. The laws say what is known of cells
-//! that were sent, and of records with nothing wrong.
+//! `specs/Cells` says which cell a value of JSON is for a field, with `null` as the zero value. `specs/Bodies` says
+//! which fields a body sends over old cells: a field's keys are a list, each with the change that it makes, and the
+//! sent field is the fold of these changes over its old cell; `specs/Changes` says the same one change after another,
+//! as the code goes. `specs/Validity` is the table of what may be wrong with a field, in its order, of which the first
+//! case counts.
+//!
+//! `read_body`, `given_id`, `zero_cells` and `faults` are these definitions. Old cells and sent numbers are at most
+//! 2^53 - 1 in size, so that a sum fits its type, and is told as out of range afterwards. A field is unique only where
+//! it holds one item, so another record with its value is found by two look-ups at most. The laws say what is known of
+//! cells that were sent: they have the shape of their collection, they fit where nothing is wrong, and relations with
+//! nothing wrong lead to records.
 #![tactic(auto)]
 
 mod bodies;

@@ -1,4 +1,11 @@
 //! The rows that stand for a state, how they are printed and how their keys are read, and the keepers that hold them.
+//!
+//! `Committer` makes the cuts of a commit first and then its puts; `Keeper` gives all rows back besides.
+//! `specs/Keeping` says what a keeper holds after a commit, and what a call of it may answer; `MemoryKeeper` commits in
+//! place. `specs/Texts` has the rows: a collection's is `c/` and its name with its JSON, a record's `r/`, its
+//! collection's name, `/` and its id with its dates and all cells, a token's `t/` and its text with
+//! `{"collection":text,"id":text,"until":date}`. They are printed for any collection, record and token; `pocket_rows`
+//! reads them back.
 #![tactic(auto)]
 
 mod keeper;

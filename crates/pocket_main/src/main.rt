@@ -1,4 +1,5 @@
-//! The program: the host's words, streams, port, clock and random words behind the top calls.
+//! The program: `main.rt` reads the words, `keepers.rt` makes the keeper that they name, and `pipe.rt` and `serve.rt`
+//! join the host's streams, port, clock and random words to the top calls.
 #![tactic(auto)]
 
 mod keepers;

@@ -1,5 +1,6 @@
-//! Tests of a server: a connection isn't held up by another, a fault ends what it concerns alone, a pass reads back what came by it, and
-//! a socket answers as a pipe does.
+//! Tests of servers: with a gate that holds the first worker's first call until the second worker's connection is
+//! answered, with a connection that holds its second read so, over a socket of this host, and with faults that end what
+//! they concern alone; and of a connection at a desk that reads back the note which it made.
 #![tactic(auto)]
 
 #[cfg(test)]

@@ -1,4 +1,14 @@
-//! Names, values, records, worlds and filters: the values that every other crate speaks of, and the compact text of JSON trees.
+//! The values that every other crate speaks of, in their final form: names, ids, moments and texts; JSON trees with
+//! their compact text (`Jv::print`); kinds of fields, cells, collections, records and worlds with their look-ups;
+//! callers and what a rule sees of a request (`Ask`); filters as they are written (`Expr`) and with their names looked
+//! up (`Resolved`), with the faults of both; deltas; and a counter of steps. Contracts see a `Text` as its bytes, a
+//! `Seq` as its list and a `Boxed` as its value. All other crates wait for this one.
+//!
+//! `specs/` in this order: `Names` has the forms of names, ids and moments, `Json` the compact text of a tree, `World`
+//! the look-ups, `Paths` which prefixes a path begins with, and `Inductions` what holds of every filter, one layer at a
+//! time. What must hold of things to be sound stands here too, for all crates above: of fields, collections and records
+//! each by itself (`Sound`), of JSON trees (`Profile`), and of what relations lead to in a world (`Within`); rules and
+//! limits are `pocket_store`'s. `Causes` says what a call tells of an object outside that counts its faults.
 #![tactic(auto)]
 
 mod boxed;

@@ -1,4 +1,13 @@
-//! What the server reads from and writes to, the requests that stand in bytes, and the text of refusals.
+//! What the server reads from and writes to, clock and dice, and the requests that stand in bytes. Each trait has a
+//! fake in memory, which tells its content, and an adapter over the host, which tells nothing.
+//!
+//! Which requests stand in bytes is a relation without offsets (`RequestsOf` of `specs/Requests`): bytes are a request
+//! and a rest, and so on, and the end is named. `specs/Blocks` says where a head's block ends, `specs/Heads` what a
+//! head asks for and when it is refused; the grammar of a head is that of `httparse`. `specs/Reading` says what
+//! `next_request` comes to.
+//!
+//! `block.rt` looks at each byte once, however the bytes are cut, `head.rt` judges, and `read.rt` reads. That bytes
+//! have one reading is a law, so that replies don't depend on how the bytes come.
 #![tactic(auto)]
 
 mod block;
