@@ -1,6 +1,7 @@
 pub mod Blocks
 pub mod Heads
 pub mod Outside
+pub mod Parts
 pub mod Phrases
 pub mod Reading
 pub mod Requests

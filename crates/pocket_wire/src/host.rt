@@ -1,4 +1,4 @@
-ghost use Rattle.std.specs.Prelude.{◌≡◌, ◌<◌, None, IfOk, length, pos};
+ghost use Rattle.std.specs.Prelude.{◌≡◌, ◌<◌, None, IfOk, length, pos, ⊤};
 ghost use Rattle.std.specs.Io.{ReadsAtMost, WritesAtMost};
 ghost use Rattle.std.specs.Io.KnownBytes.{ReadConsumes, WriteAppends};
 ghost use Rattle.pocket_types.specs.Causes.{HasCause};
@@ -24,7 +24,9 @@ impl<R: Read> Source for HostSource<R> {
 
     ghost faults = { λ s. s.faults };
 
-    ghost untouched = { λ _. (None, 0) };
+    ghost Apart = { ⊤ };
+
+    ghost untouched = { λ _. tt };
 
     fn read(&mut self, buffer: &mut [u8]) -> Result<usize, Failed>
         ensures bound { ReadsAtMost result buffer.new }
@@ -53,7 +55,9 @@ impl<W: Write> Sink for HostSink<W> {
 
     ghost faults = { λ s. s.faults };
 
-    ghost untouched = { λ _. (None, 0) };
+    ghost Apart = { ⊤ };
+
+    ghost untouched = { λ _. tt };
 
     fn write(&mut self, piece: &[u8]) -> Result<usize, Failed>
         ensures bound { WritesAtMost result piece.now }

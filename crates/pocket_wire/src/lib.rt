@@ -13,6 +13,7 @@
 mod block;
 mod clock;
 mod dice;
+mod ends;
 mod head;
 mod host;
 mod memory;
@@ -24,6 +25,7 @@ mod write;
 
 pub use clock::{Clock, FixedClock};
 pub use dice::{CountingDice, Dice};
+pub use ends::Ends;
 pub use host::{HostClock, HostDice, HostSink, HostSource};
 pub use memory::{MemoryLink, MemorySink, MemorySource};
 pub use pocket_types::Failed;

@@ -1,4 +1,4 @@
-ghost use Rattle.std.specs.Prelude.{◌≡◌, ◌≤◌, ◌<◌, drop, length, vec_len, None, Some};
+ghost use Rattle.std.specs.Prelude.{◌≡◌, ◌≤◌, ◌<◌, drop, length, vec_len, None, Some, Option, List, ℕ, ⊤};
 
 use crate::source::{Link, Sink, Source};
 use pocket_types::{Failed, Seq};
@@ -39,7 +39,9 @@ impl Source for MemorySource {
 
     ghost faults = { λ s. s.faults };
 
-    ghost untouched = { λ _. (None, 0) };
+    ghost Apart = { ⊤ };
+
+    ghost untouched = { λ _. tt };
 
     fn read(&mut self, buffer: &mut [u8]) -> Result<usize, Failed> {
         let call = self.calls;
@@ -94,7 +96,9 @@ impl Sink for MemorySink {
 
     ghost faults = { λ s. s.faults };
 
-    ghost untouched = { λ _. (None, 0) };
+    ghost Apart = { ⊤ };
+
+    ghost untouched = { λ _. tt };
 
     fn write(&mut self, piece: &[u8]) -> Result<usize, Failed> {
         let call = self.calls;
@@ -119,6 +123,8 @@ impl Source for MemoryLink {
 
     ghost faults = { λ l. ⟦<MemorySource as Source>⟧.faults l.source };
 
+    ghost Apart = { Option (List ℕ) × ℕ };
+
     ghost untouched = { λ l. (⟦<MemorySink as Sink>⟧.taken l.sink, ⟦<MemorySink as Sink>⟧.faults l.sink) };
 
     fn read(&mut self, buffer: &mut [u8]) -> Result<usize, Failed> {
@@ -131,6 +137,8 @@ impl Sink for MemoryLink {
 
     ghost faults = { λ l. ⟦<MemorySink as Sink>⟧.faults l.sink };
 
+    ghost Apart = { Option (List ℕ) × ℕ };
+
     ghost untouched = { λ l. (⟦<MemorySource as Source>⟧.left l.source, ⟦<MemorySource as Source>⟧.faults l.source) };
 
     fn write(&mut self, piece: &[u8]) -> Result<usize, Failed> {
@@ -139,9 +147,14 @@ impl Sink for MemoryLink {
 }
 
 impl Link for MemoryLink {
-    ghost use Rattle.std.specs.Prelude.{refl};
+    ghost use Rattle.std.specs.Prelude.{⊤};
+    ghost use Rattle.pocket_wire.specs.Parts.{link_apart};
 
-    ghost read_apart = { λ _. refl };
+    ghost Place = { ⊤ };
 
-    ghost write_apart = { λ _. refl };
+    ghost place = { λ _. tt };
+
+    ghost read_apart = { λ one two same. link_apart tt same };
+
+    ghost write_apart = { λ one two same. link_apart tt same };
 }

@@ -11,8 +11,10 @@ pub trait Source {
     ghost left: { Self → Option (List ℕ) };
     // how often a read has failed
     ghost faults: { Self → ℕ };
-    // what a read leaves as it is: of a sink, the bytes that it took and its faults
-    ghost untouched: { Self → Option (List ℕ) × ℕ };
+    // what a read leaves as it is
+    ghost Apart: { Type 0 };
+
+    ghost untouched: { Self → Apart };
 
     /// Reads from the front into the buffer, and answers how many bytes. A read into a buffer with room gives 0 bytes only
     /// at the end. One that fails leaves what is left.
@@ -30,8 +32,10 @@ pub trait Sink {
     ghost taken: { Self → Option (List ℕ) };
     // how often a write has failed
     ghost faults: { Self → ℕ };
-    // what a write leaves as it is: of a source, the bytes that are left and its faults
-    ghost untouched: { Self → Option (List ℕ) × ℕ };
+    // what a write leaves as it is
+    ghost Apart: { Type 0 };
+
+    ghost untouched: { Self → Apart };
 
     /// Writes from the front of the piece, and answers how many bytes. One that takes none of a piece that isn't empty is
     /// a fault. One that fails leaves what was taken.
@@ -46,7 +50,14 @@ pub trait Sink {
 
 /// A connection: a read changes nothing of the sink, and a write nothing of the source.
 pub trait Link: Source + Sink {
-    ghost read_apart: { (link : Self) → Self.Source.untouched link ≡ (Self.taken link, Self.Sink.faults link) };
+    // what it lends from, where it is made of references: it stays the same, so that the lender knows what it gets back
+    ghost Place: { Type 0 };
 
-    ghost write_apart: { (link : Self) → Self.Sink.untouched link ≡ (Self.left link, Self.Source.faults link) };
+    ghost place: { Self → Place };
+
+    ghost read_apart: { (one two : Self) → Self.Source.untouched two ≡ Self.Source.untouched one
+        → (Self.taken two ≡ Self.taken one) × (Self.Sink.faults two ≡ Self.Sink.faults one) × (place two ≡ place one) };
+
+    ghost write_apart: { (one two : Self) → Self.Sink.untouched two ≡ Self.Sink.untouched one
+        → (Self.left two ≡ Self.left one) × (Self.Source.faults two ≡ Self.Source.faults one) × (place two ≡ place one) };
 }
