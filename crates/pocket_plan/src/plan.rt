@@ -52,8 +52,9 @@ impl Plan {
     /// Whether the filter holds of a record, for a request: in the tables' world, or in what the guard leaves of it. Under a guard
     /// the record that is judged stays, without its hidden fields, whether or not the guard admits it.
     ///
-    /// The record need not stand in the tables. Views are asked of the members that the filter's paths lead to, as they are met, and of
-    /// no other record; to find them, the shelves that the paths lead to are gone through.
+    /// The record need not stand in the tables. Which records are looked at is said by no clause, and the one on steps says only that
+    /// their count doesn't fall: the code asks views of the members that the filter's paths lead to, as they are met, and goes through
+    /// the shelves that the paths lead to.
     pub fn test<L: Ledger>(
         &self,
         alloc: Global,

@@ -256,8 +256,9 @@ fn list_of<L: Ledger>(
 /// The page of a collection's list that a query asks for: its records' ids, its number and size as they count, and how many records
 /// there are.
 ///
-/// The list rule is asked of every record, and the client's filter of those that it admits. Each record is read once, by id, and where
-/// there is something to sort by, a key is made of each record that passes.
+/// Of what is done for it the clause on steps says only that their count doesn't fall. It is seen in the code that each record is read
+/// once, by id, and asked of the list rule, that the client's filter is asked of those that it admits, and that a key is made of each
+/// record that passes where there is something to sort by.
 pub fn list<L: Ledger>(
     alloc: Global,
     tables: &Tables,
