@@ -1,12 +1,12 @@
 -- What a keeper holds after a commit, and what a call of it may answer.
-use Rattle.std.specs.Prelude.{◌≡◌, ℕ, ◌≤◌, List, ◌∷◌, ◌++◌, not, filter, fold, Option, Some, None, Result, IfErr, ⊤}
+use Rattle.std.specs.Prelude.{◌≡◌, ℕ, ◌+◌, ◌-◌, ◌^◌, ◌==◌, ◌≤◌, min, true, List, ◌∷◌, ◌++◌, not, filter, fold, Option, Some, None, Result, Ok, Err, IfErr, ⊤}
 use Rattle.std.specs.List.{list_any}
 use Rattle.std.specs.Str.{bytes_eq}
 use Rattle.pocket_types.specs.Causes.{Rose}
 use Rattle.pocket_types.specs.Order.{is_before}
 use Rattle.pocket_keeper.specs.declared.rows.KeptRow.{KeptRow}
 use Rattle.pocket_keeper.specs.declared.rows.KeepFault.{KeepFault}
-use Rattle.pocket_keeper.specs.declared.rows.KeepFault.TheVariants.{Failed}
+use Rattle.pocket_keeper.specs.declared.rows.KeepFault.TheVariants.{Failed, Memory}
 
 -- the rows whose keys stand before this one
 abbrev pub rows_before : List ℕ → List KeptRow → List KeptRow
@@ -46,3 +46,13 @@ AreAsBefore old new = IfBothTold old new (λ before now. now ≡ before)
 pub record HasKeepCause {T : Type 0} (before now : ℕ) (result : Result T KeepFault) : Type 0 where
   pub later : before ≤ now
   pub failed : IfErr result (λ fault. fault ≡ Failed → Rose before now)
+
+-- the count after a call: one more where the call failed, up to the end of its type
+abbrev pub counted : {T : Type 0} → ℕ → Result T KeepFault → ℕ
+counted before (Ok answer) = before
+counted before (Err Failed) = min (before + 1) (2 ^ 64 - 1)
+counted before (Err Memory) = before
+
+-- the call of this number is to fail: it is one of these
+abbrev pub IsToFail : List ℕ → ℕ → Type 0
+IsToFail failing call = list_any (λ number. number == call) failing ≡ true

@@ -2,7 +2,7 @@ ghost use Rattle.std.specs.Prelude.{◌≡◌, ℕ, List, Option, IfSome, IfOk, 
 ghost use Rattle.pocket_types.specs.Causes.{StaysUntold};
 ghost use Rattle.pocket_keeper.specs.declared.rows.KeptRow.{KeptRow};
 ghost use Rattle.pocket_keeper.specs.Rows.{IsRising};
-ghost use Rattle.pocket_keeper.specs.Keeping.{committed, AreAsBefore, HasKeepCause, IfBothTold};
+ghost use Rattle.pocket_keeper.specs.Keeping.{committed, counted, AreAsBefore, HasKeepCause, IfBothTold};
 
 use crate::rows::{KeepFault, KeptRow};
 use pocket_types::{Seq, Text};
@@ -26,7 +26,8 @@ pub trait Committer {
         ensures kept { OnOk result (IfBothTold (rows self.old) (rows self.new) (λ before now. now ≡ committed before puts.now cuts.now)) }
         ensures as_before { OnErr result (AreAsBefore (rows self.old) (rows self.new)) }
         ensures untold { StaysUntold (rows self.old) (rows self.new) }
-        ensures cause { HasKeepCause (faults self.old) (faults self.new) result };
+        ensures cause { HasKeepCause (faults self.old) (faults self.new) result }
+        ensures counts { faults self.new ≡ counted (faults self.old) result };
 
     ghost told_rise: { (keeper : Self) → IfSome (rows keeper) IsRising };
 }
@@ -39,5 +40,6 @@ pub trait Keeper: Committer {
         ensures rising { IfOk result (λ loaded. IsRising loaded) }
         ensures as_before { AreAsBefore (Self.rows self.old) (Self.rows self.new) }
         ensures untold { StaysUntold (Self.rows self.old) (Self.rows self.new) }
-        ensures cause { HasKeepCause (Self.faults self.old) (Self.faults self.new) result };
+        ensures cause { HasKeepCause (Self.faults self.old) (Self.faults self.new) result }
+        ensures counts { Self.faults self.new ≡ counted (Self.faults self.old) result };
 }
