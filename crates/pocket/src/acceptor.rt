@@ -25,6 +25,8 @@ pub struct HostLink {
 }
 
 impl Source for HostLink {
+    ghost gives = { λ _ _ _. ⊤ };
+
     ghost left = { λ _. None };
 
     ghost faults = { λ link. link.read_faults };

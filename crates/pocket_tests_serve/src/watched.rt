@@ -86,6 +86,8 @@ pub(crate) struct WatchedLink<'w> {
 }
 
 impl Source for WatchedLink<'_> {
+    ghost gives = { λ old piece new. ⟦<MemorySource as Source>⟧.gives old.source piece new.source };
+
     ghost left = { λ _. None };
 
     ghost faults = { λ link. ⟦<MemorySource as Source>⟧.faults link.source };

@@ -16,9 +16,11 @@ use Rattle.pocket_wire.specs.declared.request.WireFault.TheVariants as fault
 use Rattle.pocket_wire.specs.Blocks.{after_empty_line, IsBlock}
 use Rattle.pocket_wire.specs.Heads.{AreRefused, AsksFor, IsHead, asks_close, body_length, fields_of}
 use Rattle.pocket_wire.specs.Phrases.{IsReplyStatus}
+use Rattle.pocket_wire.specs.Reads.{ReadsWhile}
 use Rattle.pocket_wire.specs.Requests.{BeginsWithRequest, IsDecided, IsRefused}
 use Rattle.pocket_wire.specs.Reading.{IsNext, IsRead}
 use Rattle.pocket_wire.specs.Steps.{IsAdded, IsAsked, IsFilled, IsHeadOf, IsWithBody}
+use Rattle.pocket_wire.proofs.Pieces.{reads_hold}
 use Rattle.pocket_wire.proofs.Decisions.{not_refused, not_too_long, one_block, one_head, request_block, some_bytes}
 use Rattle.pocket_wire.proofs.Verdicts.{good_status, small_body}
 
@@ -176,6 +178,12 @@ module _ (bytes : List ℕ) (start : ℕ) (parts : HeadParts) (within : start �
         request_stands (bytes ++ got) body kept start (start + parts.length) parts request refl filled (subst IsBlock (sym same_block) block)
         (subst (λ s. IsHeadOf (after_empty_line s) (head.Asks parts)) (sym same_block) asked)
         (body_is ∙ ap (λ s. slice_range s start (start + parts.length)) add) (kept_is ∙ ap (drop (start + parts.length)) add) is
+
+  -- what is read until the whole body is there is read while nothing is decided
+  pub reads_undecided : {S : Type 0} (gives : S → List ℕ → S → Type 0) (got : List ℕ) (old new : S)
+      → ReadsWhile gives (λ s. length s < start + parts.length) bytes got old new → ReadsWhile gives (λ s. ¬ (IsDecided s)) bytes got old new
+  reads_undecided gives got old new = reads_hold gives (λ s. length s < start + parts.length) (λ s. ¬ (IsDecided s)) bytes got old new
+      (λ more short. undecided more bytes None short)
 
 -- ---- a block whose head is refused
 

@@ -60,6 +60,14 @@ block_ended old now new got [] n e going f size none =
     (all, subst IsUnfinished same going)
 block_ended old now new got (x ∷ more) n e going f size none = absurd (omega (arith, size, none))
 
+-- a read that found the end before there were so many bytes
+pub fill_ended : (size : ℕ) (old now new got more : List ℕ) (n : ℕ) → now ≡ old ++ got → length now < size → new ≡ now ++ more → length more ≡ n → n ≡ 0
+    → (new ≡ old ++ (got ++ more)) × (length (old ++ (got ++ more)) < size)
+fill_ended size old now new got [] n e few f long none =
+    let same : now ≡ old ++ (got ++ []) = e ∙ ap (λ s. old ++ s) (sym (append-nil got)) in
+    (added old now new got [] e f, subst (λ s. length s < size) same few)
+fill_ended size old now new got (x ∷ more) n e few f long none = absurd (omega (arith, long, none))
+
 -- bytes that were looked at stay so
 pub looked_stays : (now new more : List ℕ) (search : Search) → IsLookedThrough now search → new ≡ now ++ more → IsLookedThrough new search
 looked_stays now new more search looked e =

@@ -1,9 +1,11 @@
 pub mod Blocks
+pub mod Fakes
 pub mod Heads
 pub mod Outside
 pub mod Parts
 pub mod Phrases
 pub mod Reading
+pub mod Reads
 pub mod Requests
 pub mod Searches
 pub mod Steps

@@ -12,6 +12,8 @@ pub struct Ends<'source, 'sink, S, O> {
 }
 
 impl<S: Source, O: Sink> Source for Ends<'_, '_, S, O> {
+    ghost gives = { λ old piece new. S.gives old.source.now piece new.source.now };
+
     ghost left = { λ e. S.left e.source.now };
 
     ghost faults = { λ e. S.faults e.source.now };

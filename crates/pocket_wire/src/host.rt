@@ -1,6 +1,6 @@
 ghost use Rattle.std.specs.Prelude.{◌≡◌, ◌<◌, None, IfOk, length, pos, ⊤};
 ghost use Rattle.std.specs.Io.{ReadsAtMost, WritesAtMost};
-ghost use Rattle.std.specs.Io.KnownBytes.{ReadConsumes, WriteAppends};
+ghost use Rattle.std.specs.Io.KnownBytes.{Consumes, ReadConsumes, WriteAppends};
 ghost use Rattle.pocket_types.specs.Causes.{HasCause};
 
 use crate::clock::Clock;
@@ -20,6 +20,8 @@ pub struct HostSource<R> {
 }
 
 impl<R: Read> Source for HostSource<R> {
+    ghost gives = { λ old piece new. Consumes (R.remaining old.inner) (R.remaining new.inner) piece };
+
     ghost left = { λ _. None };
 
     ghost faults = { λ s. s.faults };

@@ -11,6 +11,7 @@
 #![tactic(auto)]
 
 mod block;
+mod calls;
 mod clock;
 mod dice;
 mod ends;
@@ -23,6 +24,7 @@ mod request;
 mod source;
 mod write;
 
+pub use calls::Calls;
 pub use clock::{Clock, FixedClock};
 pub use dice::{CountingDice, Dice};
 pub use ends::Ends;

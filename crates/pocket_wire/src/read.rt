@@ -3,6 +3,7 @@ ghost use Rattle.std.specs.Io.KnownBytes.{Consumes};
 ghost use Rattle.pocket_types.specs.Causes.{Rose, StaysUntold};
 ghost use Rattle.pocket_wire.specs.Blocks.{IsUnfinished, after_empty_line};
 ghost use Rattle.pocket_wire.specs.Reading.{HasReplyStatus, IsRead};
+ghost use Rattle.pocket_wire.specs.Reads.{ReadsWhile};
 ghost use Rattle.pocket_wire.specs.Requests.{IsDecided};
 ghost use Rattle.pocket_wire.specs.Searches.{IsFound};
 ghost use Rattle.pocket_wire.specs.Steps.{IsAdded, IsBlockFound, IsFilled, IsHeadOf, IsPiece, IsWithBody};
@@ -18,7 +19,8 @@ use std::mem;
 /// Adds a piece of the source's bytes, and answers how many these are: none at the end of the input.
 fn read_piece<S: Source>(bytes: &mut Vec<u8>, source: &mut S) -> Result<usize, WireFault>
     ensures piece { (got : List ℕ) × Consumes (S.left source.old) (S.left source.new) got
-        × IsPiece bytes.old.items got bytes.new.items (S.left source.new) result }
+        × IsPiece bytes.old.items got bytes.new.items (S.left source.new) result
+        × S.gives source.old got source.new }
     ensures fault { IsErrOf result WireFault.SourceFault → Rose (S.faults source.old) (S.faults source.new) }
     ensures count { S.faults source.old ≤ S.faults source.new }
     ensures untold { StaysUntold (S.left source.old) (S.left source.new) }
@@ -38,7 +40,8 @@ fn read_piece<S: Source>(bytes: &mut Vec<u8>, source: &mut S) -> Result<usize, W
 /// Reads until the bytes say where the block of a head ends, or that it is too long. None: the input ended before.
 fn read_block<S: Source>(bytes: &mut Vec<u8>, source: &mut S) -> Result<Option<Found>, WireFault>
     ensures block { (got : List ℕ) × Consumes (S.left source.old) (S.left source.new) got
-        × IsAdded bytes.old.items got bytes.new.items result × IsBlockFound (bytes.old.items ++ got) (S.left source.new) result }
+        × IsAdded bytes.old.items got bytes.new.items result × IsBlockFound (bytes.old.items ++ got) (S.left source.new) result
+        × ReadsWhile S.gives IsUnfinished bytes.old.items got source.old source.new }
     ensures still { ¬ (IsUnfinished bytes.old.items) → (source.new ≡ source.old) × (bytes.new.items ≡ bytes.old.items) }
     ensures fault { IsErrOf result WireFault.SourceFault → Rose (S.faults source.old) (S.faults source.new) }
     ensures count { S.faults source.old ≤ S.faults source.new }
@@ -64,7 +67,8 @@ fn read_until<S: Source>(
     source: &mut S,
 ) -> Result<bool, WireFault>
     ensures filled { (got : List ℕ) × Consumes (S.left source.old) (S.left source.new) got
-        × IsAdded bytes.old.items got bytes.new.items result × IsFilled size (bytes.old.items ++ got) (S.left source.new) result }
+        × IsAdded bytes.old.items got bytes.new.items result × IsFilled size (bytes.old.items ++ got) (S.left source.new) result
+        × ReadsWhile S.gives (λ bytes. length bytes < size) bytes.old.items got source.old source.new }
     ensures still { size ≤ length bytes.old.items → (source.new ≡ source.old) × (bytes.new.items ≡ bytes.old.items) }
     ensures fault { IsErrOf result WireFault.SourceFault → Rose (S.faults source.old) (S.faults source.new) }
     ensures count { S.faults source.old ≤ S.faults source.new }
@@ -130,7 +134,8 @@ fn read_body<S: Source>(
     requires found { IsFound bytes.old.items (Found.Block start) }
     requires asked { IsHeadOf (after_empty_line (take start bytes.old.items)) (Head.Asks parts) }
     ensures next { (got : List ℕ) × Consumes (S.left source.old) (S.left source.new) got
-        × IsRead (bytes.old.items ++ got) (S.left source.new) bytes.new.items result }
+        × IsRead (bytes.old.items ++ got) (S.left source.new) bytes.new.items result
+        × ReadsWhile S.gives (λ bytes. ¬ (IsDecided bytes)) bytes.old.items got source.old source.new }
     ensures still { IsDecided bytes.old.items → source.new ≡ source.old }
     ensures status { HasReplyStatus result }
     ensures fault { IsErrOf result WireFault.SourceFault → Rose (S.faults source.old) (S.faults source.new) }
@@ -155,7 +160,8 @@ fn read_from_block<S: Source>(
 ) -> Result<Next, WireFault>
     requires { IsFound bytes.old.items (Found.Block end) }
     ensures next { (got : List ℕ) × Consumes (S.left source.old) (S.left source.new) got
-        × IsRead (bytes.old.items ++ got) (S.left source.new) bytes.new.items result }
+        × IsRead (bytes.old.items ++ got) (S.left source.new) bytes.new.items result
+        × ReadsWhile S.gives (λ bytes. ¬ (IsDecided bytes)) bytes.old.items got source.old source.new }
     ensures still { IsDecided bytes.old.items → source.new ≡ source.old }
     ensures status { HasReplyStatus result }
     ensures fault { IsErrOf result WireFault.SourceFault → Rose (S.faults source.old) (S.faults source.new) }
@@ -176,7 +182,8 @@ fn read_next<S: Source>(
     source: &mut S,
 ) -> Result<Next, WireFault>
     ensures next { (got : List ℕ) × Consumes (S.left source.old) (S.left source.new) got
-        × IsRead (bytes.old.items ++ got) (S.left source.new) bytes.new.items result }
+        × IsRead (bytes.old.items ++ got) (S.left source.new) bytes.new.items result
+        × ReadsWhile S.gives (λ bytes. ¬ (IsDecided bytes)) bytes.old.items got source.old source.new }
     ensures still { IsDecided bytes.old.items → source.new ≡ source.old }
     ensures status { HasReplyStatus result }
     ensures fault { IsErrOf result WireFault.SourceFault → Rose (S.faults source.old) (S.faults source.new) }
@@ -193,15 +200,16 @@ fn read_next<S: Source>(
 }
 
 /// Says what comes next on a connection, in the bytes of the inbox and those that the source gives, and leaves what stands
-/// behind it. It reads nothing where the inbox decides. A fault of the source loses no byte; after want of memory the
-/// connection can't go on.
+/// behind it. It reads piece by piece, and only while the bytes so far don't decide: where they do it waits for no more of
+/// them. A fault of the source loses no byte; after want of memory the connection can't go on.
 pub fn next_request<S: Source>(
     alloc: Global,
     inbox: &mut Inbox,
     source: &mut S,
 ) -> Result<Next, WireFault>
     ensures next { (got : List ℕ) × Consumes (S.left source.old) (S.left source.new) got
-        × IsRead (inbox.old.left ++ got) (S.left source.new) inbox.new.left result }
+        × IsRead (inbox.old.left ++ got) (S.left source.new) inbox.new.left result
+        × ReadsWhile S.gives (λ bytes. ¬ (IsDecided bytes)) inbox.old.left got source.old source.new }
     ensures still { IsDecided inbox.old.left → source.new ≡ source.old }
     ensures status { HasReplyStatus result }
     ensures fault { IsErrOf result WireFault.SourceFault → Rose (S.faults source.old) (S.faults source.new) }

@@ -2,11 +2,14 @@ ghost use Rattle.std.specs.Prelude.{◌≡◌, ℕ, ◌≤◌, ◌<◌, List, Op
 ghost use Rattle.std.specs.Io.{ReadsAtMost, WritesAtMost};
 ghost use Rattle.std.specs.Io.KnownBytes.{ReadConsumes, WriteAppends};
 ghost use Rattle.pocket_types.specs.Causes.{HasCause, StaysUntold};
+ghost use Rattle.pocket_wire.specs.Reads.{piece_of};
 
 use pocket_types::Failed;
 
 /// Bytes that are read piece by piece.
 pub trait Source {
+    // one read of the first gives these bytes, none where it fails, and leaves the second
+    ghost gives: { Self → List ℕ → Self → Type 0 };
     // the bytes that are left, where they are told
     ghost left: { Self → Option (List ℕ) };
     // how often a read has failed
@@ -23,6 +26,7 @@ pub trait Source {
         ensures bytes { ReadConsumes (left self.old) (left self.new) result buffer.new }
         ensures untold { StaysUntold (left self.old) (left self.new) }
         ensures cause { HasCause (faults self.old) (faults self.new) result }
+        ensures given { gives self.old (piece_of result buffer.new) self.new }
         ensures apart { untouched self.new ≡ untouched self.old };
 }
 

@@ -1,5 +1,5 @@
-use Rattle.std.proofs.Common.{arith}
-use Rattle.pocket_wire.proofs.Bodies.{size_fits, has_body, body_failed, body_truncated, body_read}
+use Rattle.std.proofs.Common.{arith, rules}
+use Rattle.pocket_wire.proofs.Bodies.{size_fits, has_body, body_failed, body_truncated, body_read, reads_undecided}
 use Rattle.pocket_wire.proofs.Readings.{err_is}
 use Rattle.pocket_wire.proofs.read.read_body.Goals as goal
 
@@ -17,6 +17,8 @@ returns-in_err-read_until-clause-next g c =
       body_failed c.args.bytes.now.items c.args.start c.args.parts c.requires.found.0 c.requires.found.1 c.requires.asked fill.0
           c.read_until.new.bytes.items (g.S.Source.left c.read_until.new.source) e c.from_residual.result c.read_until.result
           (err_is c.from_residual.result e c.from_residual.ensures.1) c.in_err-read_until.was fill.2 fill.3,
+      reads_undecided c.args.bytes.now.items c.args.start c.args.parts c.requires.found.0 c.requires.found.1 c.requires.asked g.S.Source.gives fill.0 c.args.source.now
+          c.read_until.new.source fill.4,
     )
 
 pub returns-in_err-read_until-clause-still : goal.returns-in_err-read_until-clause-still
@@ -31,12 +33,24 @@ returns-then-not-branch-clause-next g c =
       fill.1,
       body_truncated c.args.bytes.now.items c.args.start c.args.parts c.requires.found.0 c.requires.found.1 c.requires.asked fill.0
           c.read_until.new.bytes.items (g.S.Source.left c.read_until.new.source) c.in_ok-read_until.field-0 c.if-not-branch.true fill.2 fill.3,
+      reads_undecided c.args.bytes.now.items c.args.start c.args.parts c.requires.found.0 c.requires.found.1 c.requires.asked g.S.Source.gives fill.0 c.args.source.now
+          c.read_until.new.source fill.4,
     )
 
 pub returns-then-not-branch-clause-still : goal.returns-then-not-branch-clause-still
 returns-then-not-branch-clause-still g c = λ decided.
     (c.read_until.ensures.still
     (has_body c.args.bytes.now.items c.args.start c.args.parts c.requires.found.0 c.requires.found.1 c.requires.asked decided)).0
+
+pub returns-in_err-body-clause-next : goal.returns-in_err-body-clause-next
+returns-in_err-body-clause-next g c =
+    let fill = c.in_ok-read_until.ensures.filled in (
+      fill.0,
+      fill.1,
+      search rules,
+      reads_undecided c.args.bytes.now.items c.args.start c.args.parts c.requires.found.0 c.requires.found.1 c.requires.asked g.S.Source.gives fill.0 c.args.source.now
+          c.read_until.new.source fill.4,
+    )
 
 pub returns-in_err-body-clause-still : goal.returns-in_err-body-clause-still
 returns-in_err-body-clause-still g c = λ decided.
@@ -51,6 +65,8 @@ returns-clause-next g c =
       body_read c.args.bytes.now.items c.args.start c.args.parts c.requires.found.0 c.requires.found.1 c.requires.asked fill.0
           c.read_until.new.bytes.items (g.S.Source.left c.read_until.new.source) c.in_ok-read_until.field-0 _ c.take_body.new.bytes.items
           c.request_of.result c.if-not-branch.false fill.2 fill.3 c.in_ok-body.ensures.body c.in_ok-body.ensures.rest c.request_of.ensures,
+      reads_undecided c.args.bytes.now.items c.args.start c.args.parts c.requires.found.0 c.requires.found.1 c.requires.asked g.S.Source.gives fill.0 c.args.source.now
+          c.read_until.new.source fill.4,
     )
 
 pub returns-clause-still : goal.returns-clause-still
