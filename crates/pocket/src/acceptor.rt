@@ -1,5 +1,5 @@
 // The host's connections.
-ghost use Rattle.std.specs.Prelude.{◌<◌, ◌^◌, None, ⊤};
+ghost use Rattle.std.specs.Prelude.{◌<◌, ◌^◌, ℕ, None, ⊤};
 
 use pocket_serve::Acceptor;
 use pocket_types::Failed;
@@ -31,7 +31,9 @@ impl Source for HostLink {
 
     ghost faults = { λ link. link.read_faults };
 
-    ghost untouched = { λ link. (None, link.write_faults) };
+    ghost Apart = { ℕ };
+
+    ghost untouched = { λ link. link.write_faults };
 
     /// Waits for as long as the peer sends nothing.
     fn read(&mut self, buffer: &mut [u8]) -> Result<usize, Failed> {
@@ -50,7 +52,9 @@ impl Sink for HostLink {
 
     ghost faults = { λ link. link.write_faults };
 
-    ghost untouched = { λ link. (None, link.read_faults) };
+    ghost Apart = { ℕ };
+
+    ghost untouched = { λ link. link.read_faults };
 
     /// Waits for as long as the peer reads nothing and the system has no room for more.
     fn write(&mut self, piece: &[u8]) -> Result<usize, Failed> {
@@ -65,11 +69,15 @@ impl Sink for HostLink {
 }
 
 impl Link for HostLink {
-    ghost use Rattle.std.specs.Prelude.{refl};
+    ghost use Rattle.std.specs.Prelude.{refl, ⊤};
 
-    ghost read_apart = { λ _. refl };
+    ghost Place = { ⊤ };
 
-    ghost write_apart = { λ _. refl };
+    ghost place = { λ _. tt };
+
+    ghost read_apart = { λ one two same. (refl, same, refl) };
+
+    ghost write_apart = { λ one two same. (refl, same, refl) };
 }
 
 impl HostLink {

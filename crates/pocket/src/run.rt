@@ -21,7 +21,7 @@ use crate::status::{RunEnd, Status};
 use crate::words::pipe_token;
 use pocket_core::{StartFault, State};
 use pocket_keeper::{Committer, Keeper};
-use pocket_serve::{Outside, run_session};
+use pocket_serve::run_session;
 use pocket_types::{Seq, Steps};
 use pocket_wire::{Clock, Dice, Sink, Source};
 use pocket_words::WordFault;
@@ -99,13 +99,7 @@ fn run_opened<S: Source, O: Sink, K: Committer, C: Clock, D: Dice, L: Ledger>(
         steps: Steps::new(blank),
         keeper: PhantomData,
     };
-    let mut outside = Outside {
-        source,
-        sink,
-        clock,
-        dice,
-    };
-    let (service, ended) = run_session(alloc, service, keeper, &mut outside);
+    let (service, ended) = run_session(alloc, service, keeper, source, sink, clock, dice);
     let StateService {
         state,
         turns,

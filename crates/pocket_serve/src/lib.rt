@@ -35,5 +35,5 @@ pub use hand::{Hand, WorkerEnd, serve_hand};
 pub use input::{FinishedLink, LinkInput};
 pub use memory::MemoryAcceptor;
 pub use service::Service;
-pub use session::{Outside, run_session};
+pub use session::run_session;
 pub use workers::{ServedMachine, serve_machine};

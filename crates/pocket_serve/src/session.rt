@@ -13,7 +13,9 @@ ghost use Rattle.pocket_serve.specs.Sessions.{IsExchange, IsSession};
 
 use crate::service::Service;
 use crate::steps::{REQUESTS, answer_request, close_without_memory, refuse};
-use pocket_wire::{Clock, Dice, Ended, Inbox, Link, Next, Sink, Source, WireFault, next_request};
+use pocket_wire::{
+    Clock, Dice, Ended, Ends, Inbox, Link, Next, Sink, Source, WireFault, next_request,
+};
 use std::alloc::Global;
 
 /// Answers what comes next on a connection, where so many requests came before. None: the session goes on.
@@ -54,71 +56,41 @@ fn answer_next<V: Service, O: Sink, C: Clock, D: Dice>(
     }
 }
 
-/// What a session reads, writes and draws from.
-#[derive(Drop)]
-pub struct Outside<'source, 'sink, 'clock, 'dice, S, O, C, D> {
-    pub source: &'source mut S,
-    pub sink: &'sink mut O,
-    pub clock: &'clock mut C,
-    pub dice: &'dice mut D,
-}
-
 /// Answers the requests of a source on a sink, one after the other, and says how the session ended. It returns where the service's
 /// calls do.
 pub fn run_session<V: Service, S: Source, O: Sink, C: Clock, D: Dice>(
     alloc: Global,
     service: V,
     lent: &mut V::Lent,
-    outside: &mut Outside<'_, '_, '_, '_, S, O, C, D>,
+    source: &mut S,
+    sink: &mut O,
+    clock: &mut C,
+    dice: &mut D,
 ) -> (V, Ended)
     requires ready { V.is_ready service lent.old }
     // The service came to be what it is by the calls of a session over the bytes that the source gave, and the sink took what the
     // session sent.
     ensures session { (calls : List (Call Work Reply)) × (bytes : List ℕ) × (said : List ℕ) × (last : List ℕ)
-        × Consumes (S.left outside.old.source.now) (S.left outside.new.source.now) bytes
+        × Consumes (S.left source.old) (S.left source.new) bytes
         × V.came_by service lent.old calls result.0 lent.new
         × IsSession (V.fits (V.opening service)) (V.enters (V.opening service)) V.follows (V.seen result.0) (length (V.seen service))
         calls bytes said last result.1 (length (V.seen result.0))
-        × Takes (O.taken outside.old.sink.now) (O.taken outside.new.sink.now) (O.faults outside.old.sink.now) (O.faults outside.new.sink.now)
-        said last result.1
-        × IsDrawn (C.answers outside.old.clock.now) (C.answers outside.new.clock.now) (D.answers outside.old.dice.now)
-        (D.answers outside.new.dice.now) (draws_of calls) result.1 }
-    ensures source_fault { result.1 ≡ Ended.SourceFault → Rose (S.faults outside.old.source.now) (S.faults outside.new.source.now) }
-    ensures at_end { (result.1 ≡ Ended.Done) ⊎ (result.1 ≡ Ended.Truncated) → IsAtEnd (S.left outside.new.source.now) }
+        × Takes (O.taken sink.old) (O.taken sink.new) (O.faults sink.old) (O.faults sink.new) said last result.1
+        × IsDrawn (C.answers clock.old) (C.answers clock.new) (D.answers dice.old) (D.answers dice.new) (draws_of calls) result.1 }
+    ensures source_fault { result.1 ≡ Ended.SourceFault → Rose (S.faults source.old) (S.faults source.new) }
+    ensures at_end { (result.1 ≡ Ended.Done) ⊎ (result.1 ≡ Ended.Truncated) → IsAtEnd (S.left source.new) }
 
     // The service may go on, from the same opening, and knows of more.
     ensures ready { V.is_ready result.0 lent.new }
     ensures opening { V.opening result.0 ≡ V.opening service }
     ensures grows { BeginsWith (V.seen result.0) (V.seen service) }
 
-    // No count of faults falls, and what is outside stays where it is.
-    ensures source_count { S.faults outside.old.source.now ≤ S.faults outside.new.source.now }
-    ensures sink_count { O.faults outside.old.sink.now ≤ O.faults outside.new.sink.now }
-    ensures same_source { outside.new.source.ghost_name ≡ outside.old.source.ghost_name }
-    ensures same_sink { outside.new.sink.ghost_name ≡ outside.old.sink.ghost_name }
-    ensures same_clock { outside.new.clock.ghost_name ≡ outside.old.clock.ghost_name }
-    ensures same_dice { outside.new.dice.ghost_name ≡ outside.old.dice.ghost_name }
+    // No count of faults falls.
+    ensures source_count { S.faults source.old ≤ S.faults source.new }
+    ensures sink_count { O.faults sink.old ≤ O.faults sink.new }
 {
-    let mut service = service;
-    let mut inbox = Inbox::new(alloc);
-    'requests: for number in 0..REQUESTS {
-        let next = next_request(alloc, &mut inbox, outside.source);
-        let (after, ended) = answer_next(
-            alloc,
-            next,
-            number,
-            service,
-            lent,
-            outside.sink,
-            outside.clock,
-            outside.dice,
-        );
-        service = after;
-        if let Some(ended) = ended {
-            return (service, ended);
-        }
-    }
-    (service, Ended::Limit)
+    let mut ends = Ends { source, sink };
+    run_link(alloc, service, lent, &mut ends, clock, dice)
 }
 
 /// The next request of a link, of which nothing is written.
@@ -128,8 +100,7 @@ fn next_of<N: Link>(alloc: Global, inbox: &mut Inbox, link: &mut N) -> Result<Ne
     ensures status { HasReplyStatus result }
     ensures fault { IsErrOf result WireFault.SourceFault → Rose (N.Source.faults link.old) (N.Source.faults link.new) }
     ensures count { N.Source.faults link.old ≤ N.Source.faults link.new }
-    ensures taken { N.taken link.new ≡ N.taken link.old }
-    ensures write_faults { N.Sink.faults link.new ≡ N.Sink.faults link.old }
+    ensures apart { (N.taken link.new ≡ N.taken link.old) × (N.Sink.faults link.new ≡ N.Sink.faults link.old) × (N.place link.new ≡ N.place link.old) }
 {
     next_request(alloc, inbox, link)
 }
@@ -158,13 +129,12 @@ fn answer_on<V: Service, N: Link, C: Clock, D: Dice>(
         (C.answers clock.old) (C.answers clock.new) (D.answers dice.old) (D.answers dice.new)
         next result.1 }
     ensures count { N.Sink.faults link.old ≤ N.Sink.faults link.new }
-    ensures left { N.left link.new ≡ N.left link.old }
-    ensures read_faults { N.Source.faults link.new ≡ N.Source.faults link.old }
+    ensures apart { (N.left link.new ≡ N.left link.old) × (N.Source.faults link.new ≡ N.Source.faults link.old) × (N.place link.new ≡ N.place link.old) }
 {
     answer_next(alloc, next, number, service, lent, link, clock, dice)
 }
 
-/// Answers the requests of a link, which is source and sink in one.
+/// Answers the requests of a link, one after the other, and says how the session ended.
 pub(crate) fn run_link<V: Service, N: Link, C: Clock, D: Dice>(
     alloc: Global,
     service: V,
@@ -188,6 +158,7 @@ pub(crate) fn run_link<V: Service, N: Link, C: Clock, D: Dice>(
     ensures grows { BeginsWith (V.seen result.0) (V.seen service) }
     ensures source_count { N.Source.faults link.old ≤ N.Source.faults link.new }
     ensures sink_count { N.Sink.faults link.old ≤ N.Sink.faults link.new }
+    ensures place { N.place link.new ≡ N.place link.old }
 {
     let mut service = service;
     let mut inbox = Inbox::new(alloc);

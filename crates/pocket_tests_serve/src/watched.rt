@@ -1,5 +1,5 @@
 // Connections in memory that another thread can watch.
-ghost use Rattle.std.specs.Prelude.{◌<◌, None, ⊤};
+ghost use Rattle.std.specs.Prelude.{◌<◌, ℕ, None, ⊤};
 ghost use Rattle.pocket_tests_serve.specs.Links.{few_of, left_of};
 
 use pocket_serve::{Acceptor, Gate};
@@ -92,7 +92,9 @@ impl Source for WatchedLink<'_> {
 
     ghost faults = { λ link. ⟦<MemorySource as Source>⟧.faults link.source };
 
-    ghost untouched = { λ link. (None, ⟦<MemorySink as Sink>⟧.faults link.sink) };
+    ghost Apart = { ℕ };
+
+    ghost untouched = { λ link. ⟦<MemorySink as Sink>⟧.faults link.sink };
 
     fn read(&mut self, buffer: &mut [u8]) -> Result<usize, Failed> {
         if self.part == Part::Held && self.reads == 1 {
@@ -108,7 +110,9 @@ impl Sink for WatchedLink<'_> {
 
     ghost faults = { λ link. ⟦<MemorySink as Sink>⟧.faults link.sink };
 
-    ghost untouched = { λ link. (None, ⟦<MemorySource as Source>⟧.faults link.source) };
+    ghost Apart = { ℕ };
+
+    ghost untouched = { λ link. ⟦<MemorySource as Source>⟧.faults link.source };
 
     fn write(&mut self, piece: &[u8]) -> Result<usize, Failed> {
         let written = self.sink.write(piece);
@@ -120,11 +124,15 @@ impl Sink for WatchedLink<'_> {
 }
 
 impl Link for WatchedLink<'_> {
-    ghost use Rattle.std.specs.Prelude.{refl};
+    ghost use Rattle.std.specs.Prelude.{refl, ⊤};
 
-    ghost read_apart = { λ _. refl };
+    ghost Place = { ⊤ };
 
-    ghost write_apart = { λ _. refl };
+    ghost place = { λ _. tt };
+
+    ghost read_apart = { λ one two same. (refl, same, refl) };
+
+    ghost write_apart = { λ one two same. (refl, same, refl) };
 }
 
 /// Gives one connection.

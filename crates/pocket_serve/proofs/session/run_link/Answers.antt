@@ -22,6 +22,7 @@ requests-init g c = record {
   grows = begins_same (g.V.Service.seen c.args.service);
   source_count = le_refl _;
   sink_count = le_refl _;
+  place = refl;
 }
 
 pub requests-preserved : goal.requests-preserved
@@ -31,10 +32,10 @@ requests-preserved g c =
     let read = c.next_of-next.ensures.next in
     let between = c.next_of-next.new.link in
     let after = c.answer_on-after.new.link in
-    let taken_is : g.N.Sink.taken between ≡ g.N.Sink.taken c.requests.link = c.next_of-next.ensures.taken in
-    let faults_is : g.N.Sink.faults between ≡ g.N.Sink.faults c.requests.link = c.next_of-next.ensures.write_faults in
-    let left_is : g.N.Source.left after ≡ g.N.Source.left between = c.answer_on-after.ensures.left in
-    let reads_is : g.N.Source.faults after ≡ g.N.Source.faults between = c.answer_on-after.ensures.read_faults in
+    let taken_is : g.N.Sink.taken between ≡ g.N.Sink.taken c.requests.link = c.next_of-next.ensures.apart.0 in
+    let faults_is : g.N.Sink.faults between ≡ g.N.Sink.faults c.requests.link = c.next_of-next.ensures.apart.1 in
+    let left_is : g.N.Source.left after ≡ g.N.Source.left between = c.answer_on-after.ensures.apart.0 in
+    let reads_is : g.N.Source.faults after ≡ g.N.Source.faults between = c.answer_on-after.ensures.apart.1 in
     let low : g.N.Sink.faults c.args.link.now ≤ g.N.Sink.faults between = omega (arith, inv.sink_count, faults_is) in
     let took = subst (λ t. Appends (g.N.Sink.taken c.args.link.now) t p.2) (sym taken_is) p.6 in
     let gave = subst (λ t. Consumes (g.N.Source.left c.args.link.now) t (p.1 ++ read.0)) (sym left_is) (consumes_through _ _ _ _ _ p.3 read.1) in
@@ -57,6 +58,7 @@ requests-preserved g c =
       grows = begins_through _ _ _ inv.grows grew;
       source_count = omega (arith, inv.source_count, c.next_of-next.ensures.count, reads_is);
       sink_count = omega (arith, low, c.answer_on-after.ensures.count);
+      place = c.answer_on-after.ensures.apart.2 ∙ c.next_of-next.ensures.apart.2 ∙ inv.place;
     }
 
 pub returns-in-Some-clause-session : goal.returns-in-Some-clause-session
@@ -66,9 +68,9 @@ returns-in-Some-clause-session g c =
     let read = c.next_of-next.ensures.next in
     let between = c.next_of-next.new.link in
     let after = c.answer_on-after.new.link in
-    let taken_is : g.N.Sink.taken between ≡ g.N.Sink.taken c.requests.link = c.next_of-next.ensures.taken in
-    let faults_is : g.N.Sink.faults between ≡ g.N.Sink.faults c.requests.link = c.next_of-next.ensures.write_faults in
-    let left_is : g.N.Source.left after ≡ g.N.Source.left between = c.answer_on-after.ensures.left in
+    let taken_is : g.N.Sink.taken between ≡ g.N.Sink.taken c.requests.link = c.next_of-next.ensures.apart.0 in
+    let faults_is : g.N.Sink.faults between ≡ g.N.Sink.faults c.requests.link = c.next_of-next.ensures.apart.1 in
+    let left_is : g.N.Source.left after ≡ g.N.Source.left between = c.answer_on-after.ensures.apart.0 in
     let low : g.N.Sink.faults c.args.link.now ≤ g.N.Sink.faults between = omega (arith, inv.sink_count, faults_is) in
     let took = subst (λ t. Appends (g.N.Sink.taken c.args.link.now) t p.2) (sym taken_is) p.6 in
     let gave = subst (λ t. Consumes (g.N.Source.left c.args.link.now) t (p.1 ++ read.0)) (sym left_is) (consumes_through _ _ _ _ _ p.3 read.1) in

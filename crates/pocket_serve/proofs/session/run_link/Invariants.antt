@@ -22,4 +22,5 @@ invariant-requests g l = record {
   grows : BeginsWith (g.V.Service.seen l.service) (g.V.Service.seen l.fn.service);
   source_count : g.N.Source.faults l.fn.link ≤ g.N.Source.faults l.link;
   sink_count : g.N.Sink.faults l.fn.link ≤ g.N.Sink.faults l.link;
+  place : g.N.Link.place l.link ≡ g.N.Link.place l.fn.link;
 }
