@@ -19,16 +19,29 @@ use crate::session::run_link;
 use pocket_api::{Reply, Work};
 use pocket_desk::{Desk, Machine, Pass};
 use pocket_wire::{Clock, Dice, Ended, Link};
-use std::alloc::Global;
+use std::alloc::{AllocError, Global};
 use std::sync::Wait;
 
-/// A desk that answers the requests of a worker's connection, with the worker's pass and a runtime to wait by.
+/// What a worker serves by: a runtime to wait with, the desk, the gate that each of its calls is told to, and its number.
+pub(crate) struct Worker<'desk, M: Machine, G, R> {
+    pub(crate) rt: &'desk R,
+    pub(crate) desk: &'desk Desk<M>,
+    pub(crate) gate: &'desk G,
+    pub(crate) number: u64,
+}
+
+impl<M: Machine, G, R> Copy for Worker<'_, M, G, R> {}
+
+impl<M: Machine, G, R> Clone for Worker<'_, M, G, R> {
+    fn clone(&self) -> Result<Self, AllocError> {
+        Ok(*self)
+    }
+}
+
+/// A desk that answers the requests of a worker's connection, with the worker's pass.
 struct DeskService<'desk, M: Machine, G, R> {
-    rt: &'desk R,
-    desk: &'desk Desk<M>,
+    worker: Worker<'desk, M, G, R>,
     pass: Pass<M>,
-    gate: &'desk G,
-    worker: u64,
 }
 
 impl<M: Machine<Work = Work, Reply = Reply>, G: Gate, R: Wait> Service
@@ -45,7 +58,7 @@ impl<M: Machine<Work = Work, Reply = Reply>, G: Gate, R: Wait> Service
 
     ghost Opening = { M.Opening };
 
-    ghost opening = { λ s. M.opening s.desk.now.opened };
+    ghost opening = { λ s. M.opening s.worker.desk.now.opened };
 
     ghost seen = { λ s. works s.pass.seen };
 
@@ -56,16 +69,16 @@ impl<M: Machine<Work = Work, Reply = Reply>, G: Gate, R: Wait> Service
     // others call in between
     ghost follows = { Shared };
 
-    ghost is_ready = { λ s _. IsOf s.desk.now s.pass };
+    ghost is_ready = { λ s _. IsOf s.worker.desk.now s.pass };
 
-    ghost came_by = { λ one _ calls two _. HasCalled (M.enters (M.opening one.desk.now.opened)) one.pass calls two.pass
-        × (two.desk.now ≡ one.desk.now) };
+    ghost came_by = { λ one _ calls two _. HasCalled (M.enters (M.opening one.worker.desk.now.opened)) one.pass calls two.pass
+        × (two.worker.desk.now ≡ one.worker.desk.now) };
 
-    ghost came_by_none = { λ one _. (called_none (M.enters (M.opening one.desk.now.opened)) one.pass, refl) };
+    ghost came_by_none = { λ one _. (called_none (M.enters (M.opening one.worker.desk.now.opened)) one.pass, refl) };
 
     ghost came_by_more = { λ one two three _ _ _ calls more first second. (
-      called_more_at (λ desk. M.enters (M.opening desk.opened)) one.desk.now two.desk.now one.pass two.pass three.pass calls more first.1 first.0 second.0,
-      same_more one.desk.now two.desk.now three.desk.now first.1 second.1,
+      called_more_at (λ desk. M.enters (M.opening desk.opened)) one.worker.desk.now two.worker.desk.now one.pass two.pass three.pass calls more first.1 first.0 second.0,
+      same_more one.worker.desk.now two.worker.desk.now three.worker.desk.now first.1 second.1,
     ) };
 
     fn call(
@@ -75,22 +88,10 @@ impl<M: Machine<Work = Work, Reply = Reply>, G: Gate, R: Wait> Service
         number: u64,
         work: Work,
     ) -> (Self, Option<Reply>) {
-        let DeskService {
-            rt,
-            desk,
-            pass,
-            gate,
-            worker,
-        } = self;
-        gate.before(worker, number);
-        let (pass, reply) = desk.call(rt, pass, work);
-        let service = DeskService {
-            rt,
-            desk,
-            pass,
-            gate,
-            worker,
-        };
+        let DeskService { worker, pass } = self;
+        worker.gate.before(worker.number, number);
+        let (pass, reply) = worker.desk.call(worker.rt, pass, work);
+        let service = DeskService { worker, pass };
         (service, Some(reply))
     }
 }
@@ -133,20 +134,14 @@ pub fn answer_connection<
     ensures source_count { N.Source.faults link.old ≤ N.Source.faults link.new }
     ensures sink_count { N.Sink.faults link.old ≤ N.Sink.faults link.new }
 {
-    let service = DeskService {
+    let worker = Worker {
         rt,
         desk,
-        pass,
         gate,
-        worker,
+        number: worker,
     };
+    let service = DeskService { worker, pass };
     let (service, ended) = run_link(alloc, service, &mut (), link, clock, dice);
-    let DeskService {
-        rt: _,
-        desk: _,
-        pass,
-        gate: _,
-        worker: _,
-    } = service;
+    let DeskService { worker: _, pass } = service;
     (pass, ended)
 }

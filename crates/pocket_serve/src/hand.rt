@@ -10,7 +10,7 @@ ghost use Rattle.pocket_serve.specs.Passes.{HasCalled};
 ghost use Rattle.pocket_serve.specs.Sessions.{IsSession};
 
 use crate::acceptor::Acceptor;
-use crate::connection::answer_connection;
+use crate::connection::{Worker, answer_connection};
 use crate::gate::Gate;
 use pocket_api::{Reply, Work};
 use pocket_desk::{Desk, Machine, Pass};
@@ -44,22 +44,19 @@ fn serve_link<
     G: Gate,
     R: Wait,
 >(
-    rt: &R,
+    worker: Worker<'_, M, G, R>,
     alloc: Global,
-    desk: &Desk<M>,
     pass: Pass<M>,
     link: A::Link,
     hand: &mut Hand<A, C, D>,
-    gate: &G,
-    worker: u64,
 ) -> Pass<M>
-    requires desk { IsOf desk.now pass }
+    requires desk { IsOf worker.desk.now pass }
     requires fresh { IsFresh A.Link.left A.Link.taken A.Link.Source.faults A.Link.Sink.faults link }
     requires place { A.has_place hand.old.acceptor }
-    ensures desk { IsOf desk.now result }
+    ensures desk { IsOf worker.entry.desk.now result }
     ensures served { (served : Served) × (finished : Finished)
-        × HasCalled (M.enters (M.opening desk.now.opened)) pass served.calls result
-        × IsSession (SharedFits (M.fits (M.opening desk.now.opened))) (M.enters (M.opening desk.now.opened)) Shared (works result.seen)
+        × HasCalled (M.enters (M.opening worker.entry.desk.now.opened)) pass served.calls result
+        × IsSession (SharedFits (M.fits (M.opening worker.entry.desk.now.opened))) (M.enters (M.opening worker.entry.desk.now.opened)) Shared (works result.seen)
         (length (works pass.seen)) served.calls served.bytes served.said served.last served.ended (length (works result.seen))
         × IsFinishedAs (A.Link.left link) served finished
         × (A.told hand.new.acceptor ≡ with_finished (A.told hand.old.acceptor) finished)
@@ -68,15 +65,15 @@ fn serve_link<
 {
     let mut link = link;
     let (pass, ended) = answer_connection(
-        rt,
+        worker.rt,
         alloc,
-        desk,
+        worker.desk,
         pass,
         &mut link,
         &mut hand.clock,
         &mut hand.dice,
-        gate,
-        worker,
+        worker.gate,
+        worker.number,
     );
     hand.acceptor.finish(link, ended);
     pass
@@ -110,12 +107,18 @@ pub fn serve_hand<
         × IsHandRun (hand_view A.told C.answers D.answers hand.old) (hand_view A.told C.answers D.answers hand.new) links
         result.1.connections result.1.faulted }
 {
+    let worker = Worker {
+        rt,
+        desk,
+        gate,
+        number: worker,
+    };
     let mut pass = pass;
     let mut connections = 0;
     'links: loop {
         match hand.acceptor.accept() {
             Ok(Some(link)) => {
-                pass = serve_link(rt, alloc, desk, pass, link, hand, gate, worker);
+                pass = serve_link(worker, alloc, pass, link, hand);
                 connections += 1;
             }
             Ok(None) => {

@@ -8,6 +8,7 @@ ghost use Rattle.pocket_serve.specs.Owners.{Shared, SharedFits};
 ghost use Rattle.pocket_serve.specs.Workers.{AreWorked, IsWorked};
 
 use crate::acceptor::Acceptor;
+use crate::connection::Worker;
 use crate::gate::Gate;
 use crate::hand::{Hand, WorkerEnd, serve_hand};
 use pocket_api::{Reply, Work};
@@ -33,22 +34,27 @@ fn serve_by<
     G: Gate,
     R: Wait,
 >(
-    rt: &R,
+    worker: Worker<'_, M, G, R>,
     alloc: Global,
-    desk: &Desk<M>,
     pass: Pass<M>,
     hand: Hand<A, C, D>,
-    gate: &G,
-    worker: u64,
 ) -> (Pass<M>, Hand<A, C, D>, WorkerEnd)
-    requires desk { IsOf desk.now pass }
+    requires desk { IsOf worker.desk.now pass }
     requires new { pass.seen ≡ [] }
-    ensures desk { IsOf desk.now result.0 }
-    ensures worked { IsWorked (SharedFits (M.fits (M.opening desk.now.opened))) (M.enters (M.opening desk.now.opened)) Shared (works result.0.seen)
+    ensures desk { IsOf worker.entry.desk.now result.0 }
+    ensures worked { IsWorked (SharedFits (M.fits (M.opening worker.entry.desk.now.opened))) (M.enters (M.opening worker.entry.desk.now.opened)) Shared (works result.0.seen)
         (hand_view A.told C.answers D.answers hand) (hand_view A.told C.answers D.answers result.1) result.2 }
 {
     let mut hand = hand;
-    let (pass, end) = serve_hand(rt, alloc, desk, pass, &mut hand, gate, worker);
+    let (pass, end) = serve_hand(
+        worker.rt,
+        alloc,
+        worker.desk,
+        pass,
+        &mut hand,
+        worker.gate,
+        worker.number,
+    );
     (pass, hand, end)
 }
 
@@ -86,7 +92,7 @@ where
     let Some(hand) = hands.pop() else {
         return (pass, hands, ends);
     };
-    let worker = hands.len() as u64;
+    let number = hands.len() as u64;
     let (one, two) = desk.split(pass);
     let (last, others) = join(
         rt,
@@ -96,7 +102,19 @@ where
             ensures { IsOf desk.entry.now result.0
                 × IsWorked (SharedFits (M.fits (M.opening desk.entry.now.opened))) (M.enters (M.opening desk.entry.now.opened)) Shared (works result.0.seen)
                 (hand_view A.told C.answers D.answers hand) (hand_view A.told C.answers D.answers result.1) result.2 }
-        { serve_by(rt, alloc, desk, one, hand, gate, worker) },
+        {
+            serve_by(
+                Worker {
+                    rt,
+                    desk,
+                    gate,
+                    number,
+                },
+                alloc,
+                one,
+                hand,
+            )
+        },
         || -> (Pass<M>, Vec<Hand<A, C, D>>, Vec<WorkerEnd>)
             requires { IsSync R.row × IsSend M.row × IsSend A.row × IsSend A.Link.row × IsSend C.row × IsSend D.row × IsSync G.row
                 × IsOf desk.now two × (two.seen ≡ []) × (ends.items ≡ []) × (vec_len hands ≤ vec_capacity ends) }
