@@ -1,7 +1,7 @@
 -- Trees are cut level by level.
-use Rattle.std.proofs.Common.{◌≡◌, ◌||◌, ◌+◌, ◌<◌, ℕ, Bool, true, Bor, List, [], ◌∷◌, ◌++◌, length, get_or, take, map, codes, Option, Some, None, option_map, if◌then◌else◌, refl, sym, ap, subst, rules, append-nil, ◌∙◌}
+use Rattle.std.proofs.Common.{◌≡◌, ◌||◌, ◌+◌, ◌<◌, ℕ, Bool, true, false, Bor, List, [], ◌∷◌, ◌++◌, length, get_or, take, map, codes, Option, Some, None, option_map, if◌then◌else◌, refl, sym, ap, subst, rules, append-nil, ◌∙◌}
 use Rattle.std.specs.List.{cons_option, list_any}
-use Rattle.std.specs.Prelude.{filter_map}
+use Rattle.std.specs.Prelude.{bytes_eq, filter_map}
 use Rattle.std.proofs.lemmas.List.{map-append, map_more}
 use Rattle.std.proofs.lemmas.List.Elements.{filter_map-append}
 use Rattle.std.proofs.lemmas.Slice.Eq.{bytes_eq-Decides}
@@ -113,6 +113,22 @@ named_last key value before after =
     let behind = rests_behind key in
     ap (λ rests. option_map (λ v. (key, v)) (kept_value star rests value)) (behind_last key before after)
     ∙ ap (option_map (λ v. (key, v))) (kept_where_ended star (behind before) (behind after) value)
+
+-- ---- a key that only `*` keeps
+
+-- where `*` stands last, a key that no other path leads through is kept whole
+pub star_keeps : (key : List ℕ) (value : Cuts) (before after : List KeyPath) → rests_behind key (before ++ after) ≡ []
+    → kept_member (before ++ (codes "*" ∷ []) ∷ after) (key, value) ≡ Some (key, value.whole)
+star_keeps key value before after none =
+    let paths = before ++ (codes "*" ∷ []) ∷ after in
+    let star : names_last (codes "*") paths ≡ true = ap (list_any has_ended) (behind_last (codes "*") before after) ∙ some_ended (rests_behind (codes "*") before) (rests_behind (codes "*") after) in
+    ap (λ b. option_map (λ v. (key, v)) (kept_value b (rests_behind key paths) value)) star
+    ∙ ap (λ rests. option_map (λ v. (key, v)) (kept_value true rests value)) (filter_map-append (behind_key key) before ((codes "*" ∷ []) ∷ after))
+    ∙ ap (option_map (λ v. (key, v))) (by (bytes_eq (codes "*") key))
+  where
+    by : (same : Bool) → kept_value true (rests_behind key before ++ cons_option (if same then Some [] else None) (rests_behind key after)) value ≡ Some value.whole
+    by true = kept_where_ended true (rests_behind key before) (rests_behind key after) value
+    by false = ap (λ rests. kept_value true rests value) (sym (filter_map-append (behind_key key) before after) ∙ none)
 
 -- ---- what is borrowed
 

@@ -1,7 +1,7 @@
 // Laws of the choice of fields. Each is a function without a body.
-ghost use Rattle.std.specs.Prelude.{◌≡◌, ℕ, List, [], ◌∷◌, ◌++◌, None, Some};
+ghost use Rattle.std.specs.Prelude.{◌≡◌, ℕ, List, [], ◌∷◌, ◌++◌, None, Some, codes};
 ghost use Rattle.pocket_types.specs.declared.json.Jv.{Jv};
-ghost use Rattle.pocket_json.specs.Choosing.{Cuts, CutsByLevel, KeyPath, choose_by, kept_member};
+ghost use Rattle.pocket_json.specs.Choosing.{Cuts, CutsByLevel, KeyPath, choose_by, kept_member, rests_behind};
 
 /// The whole tree stands where no text is given.
 pub fn no_text_chooses_all()
@@ -17,4 +17,10 @@ pub fn trees_are_cut_by_level()
 pub fn a_key_named_last_is_kept_whole()
     ensures { (key : List ℕ) (value : Cuts) (before after : List KeyPath)
         → kept_member (before ++ (key ∷ []) ∷ after) (key, value) ≡ Some (key, value.whole) }
+{}
+
+/// Where `*` stands last, each key that no other path leads through is kept whole.
+pub fn a_star_keeps_all_others_whole()
+    ensures { (key : List ℕ) (value : Cuts) (before after : List KeyPath) → rests_behind key (before ++ after) ≡ []
+        → kept_member (before ++ (codes "*" ∷ []) ∷ after) (key, value) ≡ Some (key, value.whole) }
 {}
