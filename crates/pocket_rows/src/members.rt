@@ -16,7 +16,7 @@ use pocket_types::{Jv, Member, Moment, Seq};
 use std::alloc::{AllocError, Global};
 
 /// The tree of a text. None exactly where no tree of the profile has this text.
-fn tree_of(alloc: Global, text: &str) -> Result<Option<Jv>, AllocError>
+fn read_tree(alloc: Global, text: &str) -> Result<Option<Jv>, AllocError>
     ensures { IfOk result (λ found. MatchOption found (IsNoTree text.now) (λ tree. IsTreeOf text.now tree)) }
 {
     match read_jv(alloc, text.as_bytes()) {
@@ -56,7 +56,7 @@ pub fn members_in(tree: &Jv) -> Option<&[Member]>
 pub fn members_of(alloc: Global, text: &str) -> Result<Option<Seq<Member>>, AllocError>
     ensures { IfOk result (λ found. MatchOption found (IsNoMap text.now) (λ members. MayBeMap text.now members)) }
 {
-    let Some(tree) = tree_of(alloc, text)? else {
+    let Some(tree) = read_tree(alloc, text)? else {
         return Ok(None);
     };
     Ok(map_members(tree))
