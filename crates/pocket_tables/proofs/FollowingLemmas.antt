@@ -1,13 +1,10 @@
 -- Deltas that follow one another, and the stack of their inverses.
-use Rattle.std.proofs.Common.{◌≡◌, List, [], ◌∷◌, ◌++◌, refl, sym, ◌∙◌, ap, subst, false}
-use Rattle.std.specs.Prelude.{OnOk, Result, Ok, Err}
-use Rattle.std.specs.Result.{is_err}
-use Rattle.std.proofs.lemmas.Bool.{true≢false}
+use Rattle.std.proofs.Common.{◌≡◌, List, [], ◌∷◌, sym, ◌∙◌, ap, subst}
 use Rattle.pocket_types.specs.declared.world.World.{World}
 use Rattle.pocket_types.specs.declared.deltas.Delta.{Delta}
 use Rattle.pocket_tables.specs.Deltas.{FitsWorld, world_after}
 use Rattle.pocket_tables.specs.Kept.{Kept, IsReady, KeepsReady}
-use Rattle.pocket_tables.specs.Following.{AreReadyInTurn, FitInTurn, LeadTo, world_after_all}
+use Rattle.pocket_tables.specs.Following.{AreReadyInTurn, LeadTo, world_after_all}
 
 -- deltas that were ready in turn are so where what was ready stays so
 ready_in_turn_kept : (old new : Kept) (deltas : List Delta) → KeepsReady old new → new.world ≡ old.world → AreReadyInTurn old deltas → AreReadyInTurn new deltas
@@ -38,17 +35,3 @@ lead_less old new d deltas w kept is h = record {
 
 pub keeps_ready_twice : (a b c : Kept) → KeepsReady a b → KeepsReady b c → KeepsReady a c
 keeps_ready_twice a b c h k = λ w d r. k w d (h w d r)
-
--- one delta more is applied
-pub world_more : (done : List Delta) (d : Delta) (w : World) → world_after_all (done ++ d ∷ []) w ≡ world_after d (world_after_all done w)
-world_more [] d w = refl
-world_more (m ∷ done) d w = world_more done d (world_after m w)
-
-pub fits_next : (done : List Delta) (d : Delta) (rest : List Delta) (w : World) → FitInTurn (done ++ d ∷ rest) w → FitsWorld d (world_after_all done w)
-fits_next [] d rest w h = h.0
-fits_next (m ∷ done) d rest w h = fits_next done d rest (world_after m w) h.1
-
--- what a call promises where it succeeds
-pub ok_gives : {A E P : Type 0} (r : Result A E) → is_err r ≡ false → OnOk r P → P
-ok_gives (Ok a) e h = h
-ok_gives (Err x) e h = absurd (true≢false e)

@@ -10,11 +10,6 @@ abbrev pub world_after_all : List Delta → World → World
 world_after_all [] w = w
 world_after_all (d ∷ deltas) w = world_after_all deltas (world_after d w)
 
--- each delta fits the world after those before it
-abbrev pub FitInTurn : List Delta → World → Type 0
-FitInTurn [] w = Unit {0}
-FitInTurn (d ∷ deltas) w = FitsWorld d w × FitInTurn deltas (world_after d w)
-
 -- each delta fits and is ready in the world after those before it
 abbrev pub AreReadyInTurn : Kept → List Delta → Type 0
 AreReadyInTurn kept [] = Unit {0}

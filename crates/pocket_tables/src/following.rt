@@ -1,8 +1,8 @@
-// Deltas that are applied one after the other, all or none.
-ghost use Rattle.std.specs.Prelude.{◌≡◌, ◌++◌, ◌∷◌, [], reverse, IfOk, OnErr, OnOk};
+// Deltas that are applied one after the other, and undone by the stack of their inverses.
+ghost use Rattle.std.specs.Prelude.{◌≡◌, ◌++◌, ◌∷◌, [], reverse, OnErr, OnOk};
 ghost use Rattle.pocket_types.specs.declared.world.World.{World};
 ghost use Rattle.pocket_tables.specs.Deltas.{FitsWorld, inverse, world_after};
-ghost use Rattle.pocket_tables.specs.Following.{AreReadyInTurn, FitInTurn, LeadTo, world_after_all};
+ghost use Rattle.pocket_tables.specs.Following.{AreReadyInTurn, LeadTo, world_after_all};
 ghost use Rattle.pocket_tables.specs.Kept.{KeepsReady};
 
 use crate::tables::Tables;
@@ -42,27 +42,4 @@ pub fn apply_next(
     tables.reserve(alloc, &delta)?;
     inverses.push_reserved(tables.apply(delta));
     Ok(())
-}
-
-/// Applies deltas from the first to the last, and gives the stack of their inverses, by which `go_back` undoes them. For want of
-/// memory those that were applied are undone.
-pub fn apply_all(
-    alloc: Global,
-    tables: &mut Tables,
-    deltas: Vec<Delta>,
-) -> Result<Vec<Delta>, AllocError>
-    requires { FitInTurn deltas.items tables.old.world }
-    ensures world { IfOk result (λ _. tables.new.world ≡ world_after_all deltas.items tables.old.world) }
-    ensures back { IfOk result (λ inverses. LeadTo tables.new (reverse inverses.items) tables.old.world) }
-    ensures err { OnErr result (tables.new.world ≡ tables.old.world) }
-    ensures kept { KeepsReady tables.old tables.new }
-{
-    let mut inverses = Vec::new(alloc);
-    for delta in deltas {
-        if apply_next(alloc, tables, &mut inverses, delta).is_err() {
-            go_back(tables, inverses);
-            return Err(AllocError);
-        }
-    }
-    Ok(inverses)
 }

@@ -46,6 +46,6 @@ mod totals;
 mod values;
 
 pub use fields::is_single;
-pub use following::{apply_all, apply_next, go_back};
+pub use following::{apply_next, go_back};
 pub use tables::Tables;
 pub use totals::Totals;
