@@ -35,7 +35,7 @@ pub(crate) fn place_of_rec(recs: &[Rec], id: Id) -> Result<usize, usize>
 }
 
 /// The collection of a name.
-pub(crate) fn collection_named<'a>(
+pub(crate) fn collection_under<'a>(
     collections: &'a [Collection],
     name: &Name,
 ) -> Option<&'a Collection>

@@ -10,7 +10,7 @@ ghost use Rattle.pocket_tables.specs.Worlds.{IsTabled, collection_at, rec_at, re
 
 use crate::applying::make_changes;
 use crate::drawers::Drawer;
-use crate::finding::{collection_named, recs_under};
+use crate::finding::{collection_under, recs_under};
 use crate::lending::lent_shelves;
 use crate::parts::parts_of;
 use crate::reading::{next_above, next_match, next_referrer, rec_among};
@@ -102,7 +102,7 @@ impl Tables {
     {
         steps.tick();
         let recs = recs_under(self.drawers.as_slice(), collection);
-        match collection_named(self.collections.as_slice(), collection) {
+        match collection_under(self.collections.as_slice(), collection) {
             Some(collection) => next_referrer(collection, recs, field, target, after),
             None => None,
         }
@@ -125,7 +125,7 @@ impl Tables {
     {
         steps.tick();
         let recs = recs_under(self.drawers.as_slice(), collection);
-        match collection_named(self.collections.as_slice(), collection) {
+        match collection_under(self.collections.as_slice(), collection) {
             Some(collection) => next_match(collection, recs, field, value, after),
             None => None,
         }

@@ -7,7 +7,7 @@ ghost use Rattle.pocket_tables.specs.Tallies.{IsExchange, Tell, TellAll, TellCha
 ghost use Rattle.pocket_tables.specs.Worlds.{name_of};
 
 use crate::drawers::Drawer;
-use crate::finding::{collection_named, recs_under};
+use crate::finding::{collection_under, recs_under};
 use crate::reading::rec_among;
 use crate::totals::Totals;
 use pocket_ops::row_len;
@@ -80,7 +80,7 @@ fn of_standing(collections: &[Collection], drawers: &[Drawer], change: &RecChang
     requires own { All HasOwnNames collections.now }
     ensures { Tell result (standing_weighs one_each collections.now (recs_in drawers.now) change.now) (standing_weighs row_len collections.now (recs_in drawers.now) change.now) }
 {
-    let Some(collection) = collection_named(collections, &change.collection) else {
+    let Some(collection) = collection_under(collections, &change.collection) else {
         return Totals::none();
     };
     match rec_among(recs_under(drawers, &change.collection), change.id) {
