@@ -1,10 +1,9 @@
 -- The changes of a field's cell, taken one after another, are those that a body's keys ask for.
-use Rattle.std.proofs.Common.{◌≡◌, ◌+◌, ◌^◌, ◌<◌, ◌||◌, ℕ, ℤ, pos, negsuc, Bool, true, false, List, [], ◌∷◌, map, filter, filter_map, fold, Option, Some, None, Result, Ok, Err, option_map, if◌then◌else◌, refl, sym, ap, ◌∙◌, arith}
+use Rattle.std.proofs.Common.{◌≡◌, ◌+◌, ◌^◌, ◌<◌, ℕ, ℤ, pos, negsuc, Bool, true, false, List, [], ◌∷◌, map, filter, filter_map, fold, Option, Some, None, Result, Ok, Err, option_map, if◌then◌else◌, refl, sym, ap, ◌∙◌, arith}
 use Rattle.std.specs.List.{cons_option}
 use Rattle.std.specs.Option.{option_map_or}
 use Rattle.std.proofs.lemmas.Int.{ints}
 use Rattle.pocket_types.specs.Chains.{◌>>=◌, each, or_refuse}
-use Rattle.pocket_types.specs.Kinds.{is_multiple}
 use Rattle.pocket_types.specs.Profile.{size_of}
 use Rattle.pocket_types.specs.Sound.{Fits}
 use Rattle.pocket_types.specs.declared.json.Jv.{Jv}
@@ -17,9 +16,9 @@ use Rattle.pocket_types.specs.declared.records.Kind.TheVariants as kind
 use Rattle.pocket_types.specs.declared.requests.Caller.{Caller}
 use Rattle.pocket_types.specs.declared.requests.Sent.{Sent}
 use Rattle.pocket_rows.specs.Cells.{value_under}
-use Rattle.pocket_check.specs.Bodies.{cell_changed, change_under, field_sent, is_ignored, keys_of, list_keys, modifier_keys, read_change, sent_by}
+use Rattle.pocket_check.specs.Bodies.{all_changes, cell_changed, change_under, field_sent, has_key, is_ignored, items_changed, key_of, keyed, keys_of, read_change, sent_by}
 use Rattle.pocket_check.specs.Cells.{cell_of}
-use Rattle.pocket_check.specs.Changes.{IsWithin, after_change, after_changes, as_sent, cell_by_now, field_read, has_key, items_changed, key_of, read_cell}
+use Rattle.pocket_check.specs.Changes.{IsWithin, after_change, after_changes, as_sent, cell_by_now, field_read, read_cell}
 use Rattle.pocket_check.specs.declared.change.Change.{Change}
 use Rattle.pocket_check.specs.declared.change.Change.TheVariants.{Becomes, Before, Behind, Without}
 use Rattle.pocket_check.specs.declared.fault.CheckFault.{CheckFault}
@@ -92,34 +91,6 @@ run_reads f ms old ((key, change) ∷ ks) now = under (run_reads f ms old ks) (v
 
 -- ---- the four changes
 
-abbrev keyed : List ℕ → Change → Key
-keyed name change = (key_of name change, change)
-
-abbrev all_changes : List Change
-all_changes = Becomes ∷ Before ∷ Behind ∷ Without ∷ []
-
-abbrev without : Bool → List Change
-without b = if b || false then Without ∷ [] else []
-
-abbrev behind : Bool → List Change
-behind b = if b || false then Behind ∷ without b else without b
-
--- those of a field of several items, once it is known to be one
-several_keys : (b : Bool) (name : List ℕ)
-    → (name, Becomes) ∷ (if b then list_keys name else []) ≡ map (keyed name) (Becomes ∷ (if b then Before ∷ behind b else behind b))
-several_keys true name = refl
-several_keys false name = refl
-
--- the keys of a field are those of its changes
-keys_are : (k : Kind) (name : List ℕ) → (name, Becomes) ∷ modifier_keys k name ≡ map (keyed name) (filter (has_key k) all_changes)
-keys_are (kind.Text min max) name = refl
-keys_are (kind.Number min max) name = refl
-keys_are kind.Flag name = refl
-keys_are (kind.Date min max) name = refl
-keys_are (kind.Select values most) name = several_keys (is_multiple (kind.Select values most)) name
-keys_are (kind.Json max) name = refl
-keys_are (kind.Relation target most cascade) name = several_keys (is_multiple (kind.Relation target most cascade)) name
-
 -- after changes one after another
 abbrev chain : Field → List Member → Cell → List Change → Option Cell → Result (Option Cell) CheckFault
 chain f ms old [] now = Ok now
@@ -187,7 +158,7 @@ not_ignored_read who ms f old not_ignored =
     ap (λ b. sent_under f ms old (if b then [] else keys_of f)) not_ignored
     ∙ named_later f old (each (read_change f) (filter_map (change_under ms) (keys_of f)))
     ∙ ap (λ r. r >>= λ found. Ok (option_map (as_sent f) found))
-    (run_reads f ms old (keys_of f) None ∙ ap (λ ks. run f ms old ks None) (keys_are f.kind f.name) ∙ chain_runs f ms old all_changes None ∙ chain_is f ms old)
+    (run_reads f ms old (keys_of f) None ∙ chain_runs f ms old all_changes None ∙ chain_is f ms old)
 
 pub ignored_unread : (who : Caller) (ms : List Member) (f : Field) (old : Cell) → is_ignored who f ≡ true → field_sent who ms (f, old) ≡ Ok None
 ignored_unread who ms f old ignored = ap (λ b. sent_under f ms old (if b then [] else keys_of f)) ignored

@@ -9,3 +9,4 @@ mod SetLemmas
 mod ChangeLemmas
 mod ReadingLemmas
 mod LoopLemmas
+mod FaultLemmas

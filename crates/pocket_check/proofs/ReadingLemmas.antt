@@ -22,7 +22,8 @@ use Rattle.pocket_rows.specs.Cells.{AreShallow, value_under}
 use Rattle.pocket_rows.specs.FieldReading.{flag_in, list_in, may_be_date, read_all, text_read, utf8_of}
 use Rattle.pocket_rows.proofs.FieldSoundness.{items_shallow, value_shallow}
 use Rattle.pocket_check.specs.Cells.{cell_of, given_cell, is_null, items_in, num_in, only_ids, text_of, texts_of, zero_cell}
-use Rattle.pocket_check.specs.Changes.{IsWithin, asked, has_key, key_of}
+use Rattle.pocket_check.specs.Bodies.{has_key, key_of}
+use Rattle.pocket_check.specs.Changes.{IsWithin, asked}
 use Rattle.pocket_check.specs.declared.change.Change.{Change}
 use Rattle.pocket_check.proofs.AnswerLemmas.{if_some, map_some, then_some}
 use Rattle.pocket_check.proofs.ChangeLemmas.{fits_within, small_bounds}

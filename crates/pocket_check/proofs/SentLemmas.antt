@@ -1,9 +1,9 @@
 -- The cells of a record with what a body sends fit their fields, but for a number's size.
-use Rattle.std.proofs.Common.{◌≡◌, ◌≢◌, ℕ, zero, suc, ℤ, Bool, true, false, List, [], ◌∷◌, ◌++◌, codes, map, fold, zip, filter_map, Option, Some, None, Ok, IfSome, IsTrue, All, AllPairs, option_map, if◌then◌else◌, refl, sym, subst, ◌∙◌, arith}
+use Rattle.std.proofs.Common.{◌≡◌, ◌≢◌, ℕ, zero, suc, ℤ, ◌||◌, Bool, true, false, List, [], ◌∷◌, ◌++◌, map, filter, fold, zip, filter_map, Option, Some, None, Ok, IfSome, IsTrue, All, AllPairs, option_map, if◌then◌else◌, refl, sym, subst, ◌∙◌, arith}
 use Rattle.std.specs.List.{AllZip}
 use Rattle.std.specs.Option.{option_map_or}
 use Rattle.std.specs.Str.{bytes_eq}
-use Rattle.std.proofs.lemmas.Bool.{cond-false, cond-true}
+use Rattle.std.proofs.lemmas.Bool.{cond-false, cond-true, true≢false}
 use Rattle.std.proofs.lemmas.List.Elements.{All-append, All-cons, All-head, All-nil, All-tail}
 use Rattle.std.proofs.lemmas.Option.{none-some, same_Some}
 use Rattle.pocket_types.specs.Chains.{◌>>=◌, each}
@@ -30,7 +30,7 @@ use Rattle.pocket_rows.proofs.RecLemmas.{map_shallow}
 use Rattle.pocket_meaning.specs.Related.{sent_for}
 use Rattle.pocket_tables.specs.Worlds.{Suits, shape_of, type_of_kind}
 use Rattle.pocket_tables.proofs.KeyLemmas.{key_false, key_true}
-use Rattle.pocket_check.specs.Bodies.{cell_changed, change_under, field_sent, is_ignored, keys_of, list_keys, members_sent, modifier_keys, read_change, sent_by, sent_fields, sent_over, with_sent}
+use Rattle.pocket_check.specs.Bodies.{all_changes, cell_changed, change_under, field_sent, has_key, is_ignored, keyed, keys_of, members_sent, read_change, sent_by, sent_fields, sent_over, with_sent}
 use Rattle.pocket_check.specs.Cells.{cell_of}
 use Rattle.pocket_check.specs.declared.change.Change.{Change}
 use Rattle.pocket_check.specs.declared.change.Change.TheVariants.{Becomes, Before, Behind, Without}
@@ -124,32 +124,39 @@ all_changed f old (y ∷ changes) h all =
 abbrev IsKey : Kind → List ℕ × Change → Type 0
 IsKey k x = MayChange k x.1
 
-two_keys : (k : Kind) (x y : List ℕ × Change) → IsKey k x → IsKey k y → All (IsKey k) (x ∷ y ∷ [])
-two_keys k x y h g = All-cons (IsKey k) x (y ∷ []) h (All-cons (IsKey k) y [] g (All-nil (IsKey k)))
+or_no : (b : Bool) → (b || false) ≡ true → b ≡ true
+or_no true h = refl
+or_no false h = absurd (true≢false (sym h))
 
-three_keys : (k : Kind) (x y z : List ℕ × Change) → IsKey k x → IsKey k y → IsKey k z → All (IsKey k) (x ∷ y ∷ z ∷ [])
-three_keys k x y z h g q = All-cons (IsKey k) x (y ∷ z ∷ []) h (two_keys k y z g q)
+-- a field has keys only for changes that it may have
+may_from : (k : Kind) (how : Change) → has_key k how ≡ true → MayChange k how
+may_from (kind.Number min max) how h = tt
+may_from k Becomes h = tt
+may_from k Before h = h
+may_from (kind.Text min max) Behind h = absurd (true≢false (sym h))
+may_from kind.Flag Behind h = absurd (true≢false (sym h))
+may_from (kind.Date min max) Behind h = absurd (true≢false (sym h))
+may_from (kind.Select values most) Behind h = or_no (is_multiple (kind.Select values most)) h
+may_from (kind.Json max) Behind h = absurd (true≢false (sym h))
+may_from (kind.Relation target most cascade) Behind h = or_no (is_multiple (kind.Relation target most cascade)) h
+may_from (kind.Text min max) Without h = absurd (true≢false (sym h))
+may_from kind.Flag Without h = absurd (true≢false (sym h))
+may_from (kind.Date min max) Without h = absurd (true≢false (sym h))
+may_from (kind.Select values most) Without h = or_no (is_multiple (kind.Select values most)) h
+may_from (kind.Json max) Without h = absurd (true≢false (sym h))
+may_from (kind.Relation target most cascade) Without h = or_no (is_multiple (kind.Relation target most cascade)) h
 
-modifiers_fine : (k : Kind) (name : List ℕ) → All (IsKey k) (modifier_keys k name)
-modifiers_fine (kind.Number min max) name = two_keys (kind.Number min max) (name ++ codes "+", Behind) (name ++ codes "-", Without) tt tt
-modifiers_fine (kind.Select values most) name = by (is_multiple (kind.Select values most)) refl
+keys_from : (k : Kind) (name : List ℕ) (changes : List Change) → All (IsKey k) (map (keyed name) (filter (has_key k) changes))
+keys_from k name [] = All-nil (IsKey k)
+keys_from k name (how ∷ changes) = by (has_key k how) refl (keys_from k name changes)
   where
-    by : (b : Bool) → is_multiple (kind.Select values most) ≡ b → All (IsKey (kind.Select values most)) (if b then list_keys name else [])
-    by true e = three_keys (kind.Select values most) (codes "+" ++ name, Before) (name ++ codes "+", Behind) (name ++ codes "-", Without) e e e
-    by false e = All-nil (IsKey (kind.Select values most))
-modifiers_fine (kind.Relation target most cascade) name = by (is_multiple (kind.Relation target most cascade)) refl
-  where
-    by : (b : Bool) → is_multiple (kind.Relation target most cascade) ≡ b → All (IsKey (kind.Relation target most cascade)) (if b then list_keys name else [])
-    by true e = three_keys (kind.Relation target most cascade) (codes "+" ++ name, Before) (name ++ codes "+", Behind) (name ++ codes "-", Without) e e e
-    by false e = All-nil (IsKey (kind.Relation target most cascade))
-modifiers_fine k name = All-nil (IsKey k)
-
-becomes_fine : (k : Kind) → MayChange k Becomes
-becomes_fine (kind.Number min max) = tt
-becomes_fine k = tt
+    by : (b : Bool) → has_key k how ≡ b → All (IsKey k) (map (keyed name) (filter (has_key k) changes))
+        → All (IsKey k) (map (keyed name) (if b then how ∷ filter (has_key k) changes else filter (has_key k) changes))
+    by true e rest = All-cons (IsKey k) (keyed name how) (map (keyed name) (filter (has_key k) changes)) (may_from k how e) rest
+    by false e rest = rest
 
 keys_fine : (f : Field) → All (IsKey f.kind) (keys_of f)
-keys_fine f = All-cons (IsKey f.kind) (f.name, Becomes) (modifier_keys f.kind f.name) (becomes_fine f.kind) (modifiers_fine f.kind f.name)
+keys_fine f = keys_from f.kind f.name all_changes
 
 asked_keys : (ignored : Bool) (f : Field) → All (IsKey f.kind) (if ignored then [] else keys_of f)
 asked_keys true f = All-nil (IsKey f.kind)

@@ -1,5 +1,5 @@
 -- The fields that a body sends, with the cells that they will have.
-use Rattle.std.specs.Prelude.{ℕ, ◌+ℤ◌, ◌-ℤ◌, Bool, not, ◌&&◌, List, [], ◌∷◌, ◌++◌, map, filter, filter_map, fold, zip, codes, Option, Some, None, Result, Ok, Err, option_map, if◌then◌else◌}
+use Rattle.std.specs.Prelude.{ℕ, ◌+ℤ◌, ◌-ℤ◌, Bool, true, false, not, ◌&&◌, ◌||◌, List, [], ◌∷◌, ◌++◌, map, filter, filter_map, fold, zip, codes, Option, Some, None, Result, Ok, Err, option_map, if◌then◌else◌}
 use Rattle.std.specs.List.{list_any}
 use Rattle.std.specs.Option.{option_map_or}
 use Rattle.std.specs.Str.{bytes_eq}
@@ -31,36 +31,53 @@ use Rattle.pocket_check.specs.declared.fault.CheckFault.TheVariants.{BadBody, Ba
 
 -- ---- keys
 
-abbrev pub list_keys : List ℕ → List (List ℕ × Change)
-list_keys name = (codes "+" ++ name, Before) ∷ (name ++ codes "+", Behind) ∷ (name ++ codes "-", Without) ∷ []
+abbrev pub is_number : Kind → Bool
+is_number (kind.Number min max) = true
+is_number _ = false
 
-abbrev pub number_keys : List ℕ → List (List ℕ × Change)
-number_keys name = (name ++ codes "+", Behind) ∷ (name ++ codes "-", Without) ∷ []
+-- whether a field of this kind has a key for the change
+abbrev pub has_key : Kind → Change → Bool
+has_key k Becomes = true
+has_key k Before = is_multiple k
+has_key k Behind = is_multiple k || is_number k
+has_key k Without = is_multiple k || is_number k
 
--- the keys with a modifier
-abbrev pub modifier_keys : Kind → List ℕ → List (List ℕ × Change)
-modifier_keys (kind.Number min max) name = number_keys name
-modifier_keys (kind.Select values most) name = if is_multiple (kind.Select values most) then list_keys name else []
-modifier_keys (kind.Relation target most cascade) name = if is_multiple (kind.Relation target most cascade) then list_keys name else []
-modifier_keys _ name = []
+-- the key of a change, by the field's name
+abbrev pub key_of : List ℕ → Change → List ℕ
+key_of name Becomes = name
+key_of name Before = codes "+" ++ name
+key_of name Behind = name ++ codes "+"
+key_of name Without = name ++ codes "-"
 
--- the keys of a field, in the order in which they are applied
+-- the changes in the order in which they are applied
+abbrev pub all_changes : List Change
+all_changes = Becomes ∷ Before ∷ Behind ∷ Without ∷ []
+
+-- a change with its key
+abbrev pub keyed : List ℕ → Change → List ℕ × Change
+keyed name change = (key_of name change, change)
+
+-- the keys of a field
 abbrev pub keys_of : Field → List (List ℕ × Change)
-keys_of f = (f.name, Becomes) ∷ modifier_keys f.kind f.name
+keys_of f = map (keyed f.name) (filter (has_key f.kind) all_changes)
 
 -- items without those of another list
 abbrev pub items_without : List (List ℕ) → List (List ℕ) → List (List ℕ)
 items_without items gone = filter (λ x. not (list_any (bytes_eq x) gone)) items
 
+-- items after a change by those given
+abbrev pub items_changed : Change → List (List ℕ) → List (List ℕ) → List (List ℕ)
+items_changed Becomes old given = given
+items_changed Before old given = once (given ++ old)
+items_changed Behind old given = once (old ++ given)
+items_changed Without old given = items_without old given
+
 -- a cell after a change by a given one
 abbrev pub cell_changed : Change → Cell → Cell → Cell
-cell_changed Before (cell.Picks old) (cell.Picks given) = cell.Picks (once (given ++ old))
-cell_changed Before (cell.Refs old) (cell.Refs given) = cell.Refs (once (given ++ old))
-cell_changed Behind (cell.Picks old) (cell.Picks given) = cell.Picks (once (old ++ given))
-cell_changed Behind (cell.Refs old) (cell.Refs given) = cell.Refs (once (old ++ given))
+cell_changed Becomes old given = given
+cell_changed how (cell.Picks old) (cell.Picks given) = cell.Picks (items_changed how old given)
+cell_changed how (cell.Refs old) (cell.Refs given) = cell.Refs (items_changed how old given)
 cell_changed Behind (cell.Num old) (cell.Num given) = cell.Num (old +ℤ given)
-cell_changed Without (cell.Picks old) (cell.Picks given) = cell.Picks (items_without old given)
-cell_changed Without (cell.Refs old) (cell.Refs given) = cell.Refs (items_without old given)
 cell_changed Without (cell.Num old) (cell.Num given) = cell.Num (old -ℤ given)
 cell_changed _ old given = given
 

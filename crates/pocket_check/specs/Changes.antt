@@ -1,49 +1,20 @@
 -- The changes of a field's cell, one after another, as a body asks for them.
-use Rattle.std.specs.Prelude.{ℕ, pos, neg_ℤ, ◌≤ℤ◌, ◌*◌, ◌^◌, ◌||◌, Bool, true, false, List, ◌++◌, codes, Option, Some, None, Result, Ok, option_map, if◌then◌else◌}
+use Rattle.std.specs.Prelude.{ℕ, pos, neg_ℤ, ◌≤ℤ◌, ◌*◌, ◌^◌, List, Option, Some, None, Result, Ok, option_map, if◌then◌else◌}
 use Rattle.std.specs.Option.{option_map_or}
 use Rattle.pocket_types.specs.Chains.{◌>>=◌, or_refuse}
-use Rattle.pocket_types.specs.Kinds.{is_multiple}
-use Rattle.pocket_types.specs.Lists.{once}
 use Rattle.pocket_types.specs.declared.json.Jv.{Jv}
 use Rattle.pocket_types.specs.declared.json.Member.{Member}
 use Rattle.pocket_types.specs.declared.records.Cell.{Cell}
 use Rattle.pocket_types.specs.declared.records.Cell.TheVariants as cell
 use Rattle.pocket_types.specs.declared.records.Field.{Field}
-use Rattle.pocket_types.specs.declared.records.Kind.{Kind}
-use Rattle.pocket_types.specs.declared.records.Kind.TheVariants as kind
 use Rattle.pocket_types.specs.declared.requests.Sent.{Sent}
 use Rattle.pocket_rows.specs.Cells.{value_under}
-use Rattle.pocket_check.specs.Bodies.{cell_changed, items_without}
+use Rattle.pocket_check.specs.Bodies.{cell_changed, has_key, key_of}
 use Rattle.pocket_check.specs.Cells.{cell_of}
 use Rattle.pocket_check.specs.declared.change.Change.{Change}
 use Rattle.pocket_check.specs.declared.change.Change.TheVariants.{Becomes, Before, Behind, Without}
 use Rattle.pocket_check.specs.declared.fault.CheckFault.{CheckFault}
 use Rattle.pocket_check.specs.declared.fault.CheckFault.TheVariants.{BadValue}
-
-abbrev pub is_number : Kind → Bool
-is_number (kind.Number min max) = true
-is_number _ = false
-
--- whether a field of this kind has a key for the change
-abbrev pub has_key : Kind → Change → Bool
-has_key k Becomes = true
-has_key k Before = is_multiple k
-has_key k Behind = is_multiple k || is_number k
-has_key k Without = is_multiple k || is_number k
-
--- the key of a change, by the field's name
-abbrev pub key_of : List ℕ → Change → List ℕ
-key_of name Becomes = name
-key_of name Before = codes "+" ++ name
-key_of name Behind = name ++ codes "+"
-key_of name Without = name ++ codes "-"
-
--- items after a change by those given
-abbrev pub items_changed : Change → List (List ℕ) → List (List ℕ) → List (List ℕ)
-items_changed Becomes old given = given
-items_changed Before old given = once (given ++ old)
-items_changed Behind old given = once (old ++ given)
-items_changed Without old given = items_without old given
 
 -- the value that a body's members have for a change
 abbrev pub asked : Field → List Member → Change → Option Jv

@@ -1,5 +1,6 @@
 -- What is known of the cells that a body sends, and of a record with nothing wrong.
-use Rattle.std.specs.Prelude.{◌≡◌, List, [], Ok, All}
+use Rattle.std.specs.Prelude.{◌≡◌, List, [], length, Ok, Some, All}
+use Rattle.std.specs.Result.{result_err}
 use Rattle.pocket_types.specs.Profile.{IsProfiled}
 use Rattle.pocket_types.specs.Sound.{AllFit, IsSoundCollection}
 use Rattle.pocket_types.specs.Within.{AllHoldWithin, LeadsWithin}
@@ -11,7 +12,7 @@ use Rattle.pocket_types.specs.declared.requests.Caller.{Caller}
 use Rattle.pocket_types.specs.declared.requests.Sent.{Sent}
 use Rattle.pocket_types.specs.declared.world.World.{World}
 use Rattle.pocket_tables.specs.Worlds.{HasShape, IsTabled, shapes_of}
-use Rattle.pocket_check.specs.Bodies.{sent_over, with_sent}
+use Rattle.pocket_check.specs.Bodies.{sent, sent_over, with_sent}
 use Rattle.pocket_check.specs.Cells.{zero_cells}
 use Rattle.pocket_check.specs.Validity.{faults_of}
 
@@ -43,3 +44,9 @@ FaultlessCellsFit =
 abbrev pub FaultlessRelationsLeadWithin : Type 0
 FaultlessRelationsLeadWithin =
     (w : World) (c : Collection) (r : Rec) → IsTabled w → All (LeadsWithin w) c.fields → faults_of w c r ≡ [] → AllHoldWithin w c.fields r.cells
+
+-- which fault an update's body has doesn't depend on the cells that the record has
+abbrev pub OldCellsMakeNoFault : Type 0
+OldCellsMakeNoFault =
+    (who : Caller) (c : Collection) (old other : Rec) (body : Jv)
+    → length old.cells ≡ length other.cells → result_err (sent who c (Some old) body) ≡ result_err (sent who c (Some other) body)

@@ -20,7 +20,8 @@ use Rattle.pocket_types.specs.declared.records.Kind.TheVariants as kind
 use Rattle.pocket_types.specs.declared.records.Rec.{Rec}
 use Rattle.pocket_types.specs.declared.world.World.{World}
 use Rattle.pocket_ops.specs.Cells.{cell_value}
-use Rattle.pocket_tables.specs.Reads.{ids_of, matching}
+use Rattle.pocket_ops.specs.Fields.{ids_of}
+use Rattle.pocket_tables.specs.Reads.{matching}
 use Rattle.pocket_tables.specs.Worlds.{rec_at}
 use Rattle.pocket_check.specs.Cells.{is_null}
 

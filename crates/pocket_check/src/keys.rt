@@ -2,8 +2,8 @@
 ghost use Rattle.std.specs.Prelude.{◌≡◌, ◌++◌, IfOk};
 ghost use Rattle.std.specs.String.{string_bytes};
 ghost use Rattle.pocket_types.specs.declared.records.Cell.TheVariants as cell;
-ghost use Rattle.pocket_check.specs.Bodies.{cell_changed};
-ghost use Rattle.pocket_check.specs.Changes.{IsWithin, has_key, is_number, items_changed, key_of};
+ghost use Rattle.pocket_check.specs.Bodies.{cell_changed, has_key, is_number, items_changed, key_of};
+ghost use Rattle.pocket_check.specs.Changes.{IsWithin};
 
 use crate::change::Change;
 use crate::items::{items_without, joined};

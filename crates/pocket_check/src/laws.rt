@@ -1,5 +1,5 @@
 // What follows from the definitions. Each law is a function without a body of its own.
-ghost use Rattle.pocket_check.specs.Laws.{FaultlessCellsFit, FaultlessRelationsLeadWithin, SentCellsHaveShape, ZeroCellsFit};
+ghost use Rattle.pocket_check.specs.Laws.{FaultlessCellsFit, FaultlessRelationsLeadWithin, OldCellsMakeNoFault, SentCellsHaveShape, ZeroCellsFit};
 
 /// Cells that were never set fit their fields.
 pub fn zero_cells_fit()
@@ -19,4 +19,9 @@ pub fn faultless_cells_fit()
 /// The relations of a record with nothing wrong lead to records.
 pub fn faultless_relations_lead_within()
     ensures { FaultlessRelationsLeadWithin }
+{}
+
+/// Which fault an update's body has, if any, doesn't depend on the cells that the record has.
+pub fn old_cells_make_no_fault()
+    ensures { OldCellsMakeNoFault }
 {}

@@ -12,7 +12,6 @@ use Rattle.pocket_types.specs.declared.ids.Id.{Id}
 use Rattle.pocket_types.specs.declared.json.Jv.{Jv}
 use Rattle.pocket_types.specs.declared.names.Name.{Name}
 use Rattle.pocket_types.specs.declared.records.Cell.{Cell}
-use Rattle.pocket_types.specs.declared.records.Cell.TheVariants as cell
 use Rattle.pocket_types.specs.declared.records.Collection.{Collection}
 use Rattle.pocket_types.specs.declared.records.Field.{Field}
 use Rattle.pocket_types.specs.declared.records.Rec.{Rec}
@@ -20,9 +19,9 @@ use Rattle.pocket_types.specs.declared.requests.Caller.{Caller}
 use Rattle.pocket_ops.specs.Lengths.{AreApart, HasOwnNames}
 use Rattle.pocket_ops.specs.Trees.{cell_jv, date_members, put_cells, shown_members, text_jv}
 use Rattle.pocket_tables.specs.Reads.{holds_id}
-use Rattle.pocket_tables.specs.Reads as reads
 use Rattle.pocket_tables.proofs.KeyLemmas.{key_false, key_same}
-use Rattle.pocket_meaning.specs.Related.{field_at, ids_of, refers}
+use Rattle.pocket_ops.specs.Fields.{field_at, ids_of}
+use Rattle.pocket_meaning.specs.Related.{refers}
 use Rattle.pocket_plan.specs.Cutting.{is_open, open_collection, open_rec}
 use Rattle.pocket_plan.specs.Guarding.{open_field_at}
 use Rattle.pocket_plan.proofs.Opening.{field_open}
@@ -76,15 +75,6 @@ open_is_first name (f ∷ fs) (c ∷ cs) x h e = by (is_open f) (bytes_eq f.name
     by false true g later found = let nothing = none (key_same f.name name g) in cc
     by false false g later found = later found
 
-same_ids : (c : Cell) → reads.ids_of c ≡ ids_of c
-same_ids (cell.Text t) = refl
-same_ids (cell.Num n) = refl
-same_ids (cell.Flag b) = refl
-same_ids (cell.Date d) = refl
-same_ids (cell.Picks items) = refl
-same_ids (cell.Json tree) = refl
-same_ids (cell.Refs ids) = refl
-
 -- a record that is seen to refer to an id holds it
 pub points_holds : (whole : Bool) (k : Collection) (field name : Name) (id : Id) (r : Rec) → HasOwnNames k
     → points_shown whole k field name id r ≡ true → holds_id k field id r ≡ true
@@ -97,13 +87,13 @@ points_holds whole k field name id r own h = by whole h
     both true b e = e
     both false b e = absurd (true≢false (sym e))
 
-    at : (o : Option (Field × Cell)) → option_map_or (refers name id) o false ≡ true → option_map_or (λ x. held (reads.ids_of x.1)) o false ≡ true
+    at : (o : Option (Field × Cell)) → option_map_or (refers name id) o false ≡ true → option_map_or (λ x. held (ids_of x.1)) o false ≡ true
     at None e = e
-    at (Some (f, c)) e = ap held (same_ids c) ∙ both (option_map_or (λ target. bytes_eq target name) (target_of f.kind) false) (held (ids_of c)) e
+    at (Some (f, c)) e = both (option_map_or (λ target. bytes_eq target name) (target_of f.kind) false) (held (ids_of c)) e
 
-    openly : (o : Option (Field × Cell)) → open_field_at k r field ≡ o → option_map_or (refers name id) o false ≡ true → option_map_or (λ x. held (reads.ids_of x.1)) (field_at k r field) false ≡ true
+    openly : (o : Option (Field × Cell)) → open_field_at k r field ≡ o → option_map_or (refers name id) o false ≡ true → option_map_or (λ x. held (ids_of x.1)) (field_at k r field) false ≡ true
     openly None e f = absurd (true≢false (sym f))
-    openly (Some x) e f = ap (λ o. option_map_or (λ x. held (reads.ids_of x.1)) o false) (open_is_first field k.fields r.cells x own.apart e) ∙ at (Some x) f
+    openly (Some x) e f = ap (λ o. option_map_or (λ x. held (ids_of x.1)) o false) (open_is_first field k.fields r.cells x own.apart e) ∙ at (Some x) f
 
     by : (b : Bool) → points_shown b k field name id r ≡ true → holds_id k field id r ≡ true
     by true e = at (field_at k r field) e

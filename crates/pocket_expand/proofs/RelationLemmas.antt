@@ -11,7 +11,8 @@ use Rattle.pocket_types.specs.declared.records.Rec.{Rec}
 use Rattle.pocket_types.specs.declared.requests.Caller.{Caller}
 use Rattle.pocket_types.specs.declared.world.World.{World}
 use Rattle.pocket_meaning.specs.Members.{Member}
-use Rattle.pocket_meaning.specs.Related.{held, ids_of}
+use Rattle.pocket_ops.specs.Fields.{ids_of}
+use Rattle.pocket_meaning.specs.Related.{held}
 use Rattle.pocket_meaning.specs.declared.members.Member as lent
 use Rattle.pocket_gate.specs.Shown.{field_shown, member_at}
 use Rattle.pocket_gate.proofs.ShownLemmas.{held_named}

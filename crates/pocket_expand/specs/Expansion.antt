@@ -14,7 +14,8 @@ use Rattle.pocket_types.specs.declared.world.World.{World}
 use Rattle.pocket_ops.specs.Trees.{list_jv, shown_members}
 use Rattle.pocket_meaning.specs.Members.{Member}
 use Rattle.pocket_meaning.specs.Members as member
-use Rattle.pocket_meaning.specs.Related.{field_at, held, holders}
+use Rattle.pocket_ops.specs.Fields.{field_at}
+use Rattle.pocket_meaning.specs.Related.{held, holders}
 use Rattle.pocket_plan.specs.Cutting.{open_collection, open_rec}
 use Rattle.pocket_gate.specs.Seen.{seen_world}
 use Rattle.pocket_expand.specs.Names.{names_of}

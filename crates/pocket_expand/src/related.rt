@@ -16,7 +16,8 @@ ghost use Rattle.pocket_expand.specs.Met.{found_seen, is_holder, member_seen, po
 
 use crate::names::Lead;
 use pocket_gate::{Rules, collection_named, field_seen, if_viewable, record_seen};
-use pocket_meaning::{Member, does_refer, ids_in};
+use pocket_meaning::{Member, does_refer};
+use pocket_ops::ids_in;
 use pocket_tables::Tables;
 use pocket_types::{Ask, Cell, Collection, Field, Id, Name, Rec, Steps};
 use std::alloc::{AllocError, Global};

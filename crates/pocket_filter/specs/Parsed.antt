@@ -1,6 +1,7 @@
 -- The verdict of a text as a value: its tree, or its first fault.
-use Rattle.std.specs.Prelude.{◌≡◌, ◌≢◌, ℕ, zero, suc, ◌+◌, ◌-◌, ◌||◌, nat_lt, List, [], ◌∷◌, length, Bool, false, Result, Ok, Err, MatchResult}
+use Rattle.std.specs.Prelude.{ℕ, zero, suc, ◌+◌, ◌-◌, ◌||◌, nat_lt, List, [], ◌∷◌, length, Bool, false, Result, Ok, Err}
 use Rattle.pocket_types.specs.Chains.{◌>>=◌, refuse, or_refuse}
+use Rattle.pocket_types.specs.Chains as chains
 use Rattle.pocket_types.specs.declared.expr.Expr.{Expr}
 use Rattle.pocket_types.specs.declared.faults.FilterFault.{FilterFault}
 use Rattle.pocket_types.specs.declared.faults.FilterFault.TheVariants as fault
@@ -45,7 +46,7 @@ parsed text = do
 
 -- what a call gives: the answer, as its value is seen, or that memory is wanting
 abbrev pub GivesAs : {A B : Type 0} → (A → B) → Result A FilterFault → Result B FilterFault → Type 0
-GivesAs seen result answer = MatchResult result (λ x. answer ≡ Ok (seen x)) (λ e. e ≢ fault.Memory → answer ≡ Err e)
+GivesAs = chains.GivesAs fault.Memory
 
 abbrev pub Gives : {A : Type 0} → Result A FilterFault → Result A FilterFault → Type 0
 Gives = GivesAs (λ x. x)

@@ -28,7 +28,8 @@ use Rattle.pocket_tables.proofs.KeyLemmas.{differs_above}
 use Rattle.pocket_tables.proofs.WorldLemmas.{ordered_from}
 use Rattle.pocket_meaning.specs.Members.{Member}
 use Rattle.pocket_meaning.specs.Members as member
-use Rattle.pocket_meaning.specs.Related.{held, ids_of, shelf_member}
+use Rattle.pocket_ops.specs.Fields.{ids_of}
+use Rattle.pocket_meaning.specs.Related.{held, shelf_member}
 use Rattle.pocket_meaning.specs.Seen.{seen}
 use Rattle.pocket_meaning.specs.declared.members.Member as lent
 use Rattle.pocket_plan.specs.Cutting.{open_shelf, open_world}

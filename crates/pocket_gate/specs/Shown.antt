@@ -10,7 +10,8 @@ use Rattle.pocket_types.specs.declared.records.Rec.{Rec}
 use Rattle.pocket_types.specs.declared.world.World.{World}
 use Rattle.pocket_meaning.specs.Members.{Member}
 use Rattle.pocket_meaning.specs.Members as member
-use Rattle.pocket_meaning.specs.Related.{field_at, shelf_member}
+use Rattle.pocket_ops.specs.Fields.{field_at}
+use Rattle.pocket_meaning.specs.Related.{shelf_member}
 use Rattle.pocket_plan.specs.Cutting.{open_collection, open_rec}
 use Rattle.pocket_plan.specs.Guarding.{open_field_at}
 

@@ -14,7 +14,8 @@ ghost use Rattle.pocket_gate.specs.Shown.{field_shown, member_at, shown};
 
 use crate::rules::Rules;
 use crate::verdict::Verdict;
-use pocket_meaning::{Member, field_of};
+use pocket_meaning::Member;
+use pocket_ops::field_of;
 use pocket_plan::open_field_of;
 use pocket_tables::Tables;
 use pocket_types::{Action, Ask, Cell, Collection, Field, Id, Name, Rec, Steps};
@@ -25,9 +26,7 @@ use std::sync::ledger::Ledger;
 pub fn collection_named<'a>(collections: &'a [Collection], name: &Name) -> Option<&'a Collection>
     ensures { option_copied result ≡ fields.collection_named collections.now name.now }
 {
-    collections
-        .iter()
-        .find(|collection| collection.name == *name)
+    pocket_resolve::collection_named(collections, name.as_str())
 }
 
 /// A field of a record that isn't hidden, unless the record is seen whole.

@@ -25,7 +25,8 @@ use Rattle.pocket_meaning.specs.Members.{Member}
 use Rattle.pocket_meaning.specs.Members as member
 use Rattle.pocket_meaning.specs.Choices.{or_nobody}
 use Rattle.pocket_meaning.specs.Choosing.{IsIn}
-use Rattle.pocket_meaning.specs.Related.{field_at, ids_of, shelf_member, held, points_to, holders, step_list, caller_list, root_list}
+use Rattle.pocket_ops.specs.Fields.{field_at, ids_of}
+use Rattle.pocket_meaning.specs.Related.{shelf_member, held, points_to, holders, step_list, caller_list, root_list}
 
 -- nobody isn't in the list
 abbrev pub Somebody : List Member → Type 0

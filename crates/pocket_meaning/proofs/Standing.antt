@@ -21,7 +21,8 @@ use Rattle.pocket_types.specs.declared.world.Shelf.{Shelf}
 use Rattle.pocket_types.specs.declared.world.World.{World}
 use Rattle.pocket_meaning.specs.Members.{Member}
 use Rattle.pocket_meaning.specs.Members as member
-use Rattle.pocket_meaning.specs.Related.{field_at, ids_of, shelf_member, held, points_to, step_list, caller_list, sent_field}
+use Rattle.pocket_ops.specs.Fields.{field_at, ids_of}
+use Rattle.pocket_meaning.specs.Related.{shelf_member, held, points_to, step_list, caller_list, sent_field}
 use Rattle.pocket_meaning.specs.Sights.{Sight, sight}
 use Rattle.pocket_meaning.specs.Choices.{or_nobody}
 use Rattle.pocket_meaning.specs.Choosing.{IsIn, IsChoice, bare, then_step}

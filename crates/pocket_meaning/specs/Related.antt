@@ -1,5 +1,5 @@
 -- The related lists: the members of each root, and those to which a step leads from a member.
-use Rattle.std.specs.Prelude.{Bool, false, ◌&&◌, List, [], ◌∷◌, map, Option, Some, find, filter, filter_map, zip, option_map}
+use Rattle.std.specs.Prelude.{Bool, false, ◌&&◌, List, [], ◌∷◌, map, Option, Some, find, filter, filter_map, option_map}
 use Rattle.std.specs.List.{list_any}
 use Rattle.std.specs.Option.{option_map_or}
 use Rattle.std.specs.Str.{bytes_eq}
@@ -8,7 +8,6 @@ use Rattle.pocket_types.specs.World.{shelf_named, rec_of}
 use Rattle.pocket_types.specs.declared.ids.Id.{Id}
 use Rattle.pocket_types.specs.declared.names.Name.{Name}
 use Rattle.pocket_types.specs.declared.records.Cell.{Cell}
-use Rattle.pocket_types.specs.declared.records.Cell.TheVariants as cell
 use Rattle.pocket_types.specs.declared.records.Collection.{Collection}
 use Rattle.pocket_types.specs.declared.records.Field.{Field}
 use Rattle.pocket_types.specs.declared.records.Rec.{Rec}
@@ -24,12 +23,9 @@ use Rattle.pocket_types.specs.declared.world.Shelf.{Shelf}
 use Rattle.pocket_types.specs.declared.world.World.{World}
 use Rattle.pocket_ops.specs.Cells.{items_of}
 use Rattle.pocket_ops.specs.DateReading.{◌>>=◌}
+use Rattle.pocket_ops.specs.Fields.{field_at, ids_of}
 use Rattle.pocket_meaning.specs.Members.{Member}
 use Rattle.pocket_meaning.specs.Members as member
-
--- a field of a record, with its cell
-abbrev pub field_at : Collection → Rec → Name → Option (Field × Cell)
-field_at c r name = find (λ x. bytes_eq x.0.name name) (zip c.fields r.cells)
 
 -- what was sent for a field
 abbrev pub sent_for : List Sent → Name → Option Sent
@@ -42,11 +38,6 @@ sent_field w home body name = do
   f ← find (λ f. bytes_eq f.name name) s.collection.fields
   x ← sent_for body name
   Some (f, x.cell)
-
--- the ids that a cell holds
-abbrev pub ids_of : Cell → List Id
-ids_of (cell.Refs ids) = ids
-ids_of _ = []
 
 -- the record of an id on a shelf
 abbrev pub shelf_member : Shelf → Id → Option Member

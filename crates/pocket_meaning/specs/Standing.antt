@@ -17,7 +17,7 @@ use Rattle.pocket_types.specs.declared.world.Shelf.{Shelf}
 use Rattle.pocket_types.specs.declared.world.World.{World}
 use Rattle.pocket_meaning.specs.Members.{Member}
 use Rattle.pocket_meaning.specs.Members as member
-use Rattle.pocket_meaning.specs.Related.{field_at}
+use Rattle.pocket_ops.specs.Fields.{field_at}
 use Rattle.pocket_meaning.specs.Sights.{sight}
 use Rattle.pocket_meaning.specs.Choosing.{IsIn, IsChoice, bare, then_step}
 

@@ -1,5 +1,5 @@
 -- The values of cells, fields, items and pairs.
-use Rattle.std.specs.Prelude.{ℕ, List, Option, codes, find, is_some, if◌then◌else◌}
+use Rattle.std.specs.Prelude.{ℕ, List, Option, codes, find, is_some}
 use Rattle.std.specs.Option.{option_map_or}
 use Rattle.std.specs.Str.{bytes_eq}
 use Rattle.pocket_types.specs.declared.names.Name.{Name}
@@ -17,10 +17,9 @@ use Rattle.pocket_types.specs.declared.resolved.Modifier.TheVariants as modifier
 use Rattle.pocket_types.specs.declared.values.Value.{Value}
 use Rattle.pocket_types.specs.declared.values.Value.TheVariants as value
 use Rattle.pocket_ops.specs.Cells.{cell_value, count_value, lowered}
-use Rattle.pocket_ops.specs.Dates.{date_text}
+use Rattle.pocket_ops.specs.Fields.{built_in_or, field_at}
 use Rattle.pocket_meaning.specs.Members.{Member}
 use Rattle.pocket_meaning.specs.Members as member
-use Rattle.pocket_meaning.specs.Related.{field_at}
 
 -- a cell under a modifier: the count of its items, its text in lower case, or its value
 abbrev pub modified : Modifier → Field × Cell → Value
@@ -30,12 +29,7 @@ modified _ (field, cell) = cell_value field cell
 
 -- a field of a record: one that every record has, or one of its own, with its cell where the record has it; else Nothing
 abbrev pub value_among : Collection → Rec → Name → Option (Field × Cell) → Modifier → Value
-value_among c r name own modifier =
-    if bytes_eq name (codes "id") then value.Text r.id
-    else (if bytes_eq name (codes "created") then value.Text (date_text r.created)
-    else (if bytes_eq name (codes "updated") then value.Text (date_text r.updated)
-    else (if bytes_eq name (codes "collectionName") then value.Text c.name
-    else option_map_or (modified modifier) own value.Nothing)))
+value_among c r name own modifier = built_in_or c r name (option_map_or (modified modifier) own value.Nothing)
 
 -- a field of a record; Nothing where its collection lacks it
 abbrev pub field_value : Collection → Rec → Name → Modifier → Value

@@ -45,8 +45,6 @@ pub use choices::member_chosen;
 pub use meaning::{holds_slow, is_true_in};
 pub use members::{Chosen, Member, Scene, lent_shelves};
 pub use prefixes::{prefixes_of_any, prefixes_of_test};
-pub use related::{
-    add_items, does_refer, field_of, ids_in, members_of_root, members_of_step, sent_of, shelf_in,
-};
+pub use related::{add_items, does_refer, members_of_root, members_of_step, sent_of, shelf_in};
 pub use sees::Sees;
 pub use values::{member_value_of, value_of_field, value_under};

@@ -1,51 +1,19 @@
-ghost use Rattle.std.specs.Prelude.{◌≡◌, IfOk, map, filter, filter_map, option_map, ◌++◌, false, zip, find};
+ghost use Rattle.std.specs.Prelude.{◌≡◌, IfOk, map, filter, filter_map, option_map, ◌++◌, false, find};
 ghost use Rattle.std.specs.List.{list_any};
 ghost use Rattle.std.specs.Str.{bytes_eq};
 ghost use Rattle.std.specs.Option.{option_copied, option_map_or};
 ghost use Rattle.pocket_types.specs.Kinds.{target_of};
 ghost use Rattle.pocket_types.specs.World.{shelf_named, rec_of, lent_shelf, lent_world};
 ghost use Rattle.pocket_ops.specs.Cells.{items_of};
+ghost use Rattle.pocket_ops.specs.Fields.{ids_of};
 ghost use Rattle.pocket_meaning.specs.Members as member;
-ghost use Rattle.pocket_meaning.specs.Related.{field_at, sent_for, sent_field, ids_of, shelf_member, held, refers, points_to, holders, step_list, root_list};
+ghost use Rattle.pocket_meaning.specs.Related.{sent_for, sent_field, shelf_member, held, refers, points_to, holders, step_list, root_list};
 ghost use Rattle.pocket_meaning.specs.Seen.{seen, sight_of};
 
 use crate::members::{Member, Scene};
+use pocket_ops::{field_of, ids_in};
 use pocket_types::{Caller, Cell, Collection, Field, Id, LentShelf, Name, Rec, Root, Sent, Step};
 use std::alloc::{AllocError, Global};
-
-/// The first field of a name, with its cell.
-fn field_among<'a>(
-    fields: &'a [Field],
-    cells: &'a [Cell],
-    name: &Name,
-) -> Option<(&'a Field, &'a Cell)>
-    ensures { option_map (λ x. (x.0.now, x.1.now)) result ≡ find (λ x. bytes_eq x.0.name name.now) (zip fields.now cells.now) }
-{
-    match fields {
-        [] => None,
-        [field, fields @ ..] => match cells {
-            [] => None,
-            [cell, cells @ ..] => {
-                if field.name == *name {
-                    Some((field, cell))
-                } else {
-                    field_among(fields, cells, name)
-                }
-            }
-        },
-    }
-}
-
-/// A field of a record, with its cell.
-pub fn field_of<'a>(
-    collection: &'a Collection,
-    rec: &'a Rec,
-    name: &Name,
-) -> Option<(&'a Field, &'a Cell)>
-    ensures { option_map (λ x. (x.0.now, x.1.now)) result ≡ field_at collection.now rec.now name.now }
-{
-    field_among(collection.fields.as_slice(), rec.cells.as_slice(), name)
-}
 
 /// What was sent for a field.
 pub fn sent_of<'a>(body: &'a [Sent], name: &Name) -> Option<&'a Sent>
@@ -138,16 +106,6 @@ fn add_named<'a>(
         }
     }
     Ok(())
-}
-
-/// The ids that a cell holds.
-pub fn ids_in(cell: &Cell) -> &[Id]
-    ensures { result.now ≡ ids_of cell.now }
-{
-    match cell {
-        Cell::Refs(ids) => ids.as_slice(),
-        _ => &[],
-    }
 }
 
 /// Adds the records that a relation holds.

@@ -11,9 +11,9 @@ ghost use Rattle.pocket_meaning.specs.Values.{modified, value_among, member_valu
 
 use crate::choices::member_chosen;
 use crate::members::{Chosen, Member};
-use crate::related::{field_of, sent_of};
+use crate::related::sent_of;
 use crate::sees::Sees;
-use pocket_ops::{cell_value, count_value, date_text, lowered_value, macro_value};
+use pocket_ops::{cell_value, count_value, date_text, field_of, lowered_value, macro_value};
 use pocket_types::{
     Cell, Collection, Context, Field, Leaf, Method, Modifier, Moment, Name, Pair, Prefix, Rec,
     Text, Value, copied,

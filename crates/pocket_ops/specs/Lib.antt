@@ -3,6 +3,7 @@ pub mod Cells
 pub mod Comparison
 pub mod Dates
 pub mod DateReading
+pub mod Fields
 pub mod Lengths
 pub mod Likeness
 pub mod Macros

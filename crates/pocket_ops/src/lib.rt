@@ -1,5 +1,6 @@
 //! What values are worth: how two of them compare, when a text is like a pattern, the value of a cell, dates and
-//! macros; and the JSON trees of cells, fields, collections and records, with the length of a record's row text.
+//! macros; the fields of records; and the JSON trees of cells, fields, collections and records, with the length of a
+//! record's row text.
 //!
 //! Comparison (`specs/Comparison`) is one order between values of one kind, and each operator a test of it. Likeness is
 //! a relation between the pieces of a pattern and a text (`specs/Likeness`). The code goes once over the text and keeps
@@ -27,6 +28,7 @@ mod comparison;
 mod copies;
 mod date_reading;
 mod date_texts;
+mod fields;
 mod items;
 pub mod laws;
 mod lengths;
@@ -42,6 +44,7 @@ pub use comparison::compare;
 pub use copies::copied_tree;
 pub use date_reading::date_read;
 pub use date_texts::date_text;
+pub use fields::{field_of, ids_in};
 pub use items::Item;
 pub use likeness::like;
 pub use macros::macro_value;

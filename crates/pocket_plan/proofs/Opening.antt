@@ -19,7 +19,8 @@ use Rattle.pocket_types.specs.declared.world.World.{World}
 use Rattle.pocket_ops.specs.DateReading.{◌>>=◌}
 use Rattle.pocket_meaning.specs.Members.{Member}
 use Rattle.pocket_meaning.specs.Members as member
-use Rattle.pocket_meaning.specs.Related.{field_at, shelf_member, ids_of, held, refers, points_to, holders, caller_list}
+use Rattle.pocket_ops.specs.Fields.{field_at, ids_of}
+use Rattle.pocket_meaning.specs.Related.{shelf_member, held, refers, points_to, holders, caller_list}
 use Rattle.pocket_plan.specs.Cutting.{is_open, open_collection, open_rec, open_shelf, open_world}
 use Rattle.pocket_plan.specs.Guarding.{open_field_at, open_points_to, open_holders}
 use Rattle.pocket_plan.proofs.Filtered.{find_in_filter}

@@ -13,7 +13,8 @@ ghost use Rattle.pocket_plan.specs.Guarded.{is_admitted, admitted_of, admitted_u
 use crate::guard::{View, ViewTest};
 use crate::guarded::Guarded;
 use crate::open_fields::does_point_openly;
-use pocket_meaning::{Member, Scene, ids_in, is_true_in, shelf_in};
+use pocket_meaning::{Member, Scene, is_true_in, shelf_in};
+use pocket_ops::ids_in;
 use pocket_types::{Cell, Field, Id, LentShelf, Name, Rec};
 use std::alloc::{AllocError, Global};
 

@@ -18,7 +18,8 @@ use Rattle.pocket_types.specs.declared.values.Value.TheVariants as value
 use Rattle.pocket_types.specs.declared.world.World.{World}
 use Rattle.pocket_meaning.specs.Members.{Member}
 use Rattle.pocket_meaning.specs.Members as member
-use Rattle.pocket_meaning.specs.Related.{field_at, held, root_list}
+use Rattle.pocket_ops.specs.Fields.{field_at}
+use Rattle.pocket_meaning.specs.Related.{held, root_list}
 use Rattle.pocket_meaning.specs.Values.{member_value}
 use Rattle.pocket_gate.specs.Seen.{seen_home, seen_world}
 use Rattle.pocket_read.specs.declared.keys.SortKey.{SortKey}

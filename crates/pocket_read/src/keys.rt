@@ -18,7 +18,8 @@ ghost use Rattle.pocket_read.specs.Sorting as sorting;
 
 use crate::terms::SortTerm;
 use pocket_gate::{Rules, field_seen, record_seen};
-use pocket_meaning::{Member, ids_in, value_of_field};
+use pocket_meaning::{Member, value_of_field};
+use pocket_ops::ids_in;
 use pocket_tables::Tables;
 use pocket_types::{
     Ask, Cell, Collection, Field, Id, Modifier, Name, Rec, Seq, Step, Steps, Value,

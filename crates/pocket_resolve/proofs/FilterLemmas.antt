@@ -14,7 +14,8 @@ use Rattle.pocket_types.specs.declared.resolved.Resolved.TheVariants as made
 use Rattle.pocket_types.specs.declared.resolved.Resolved.TheOpen as resolved
 use Rattle.pocket_types.specs.declared.resolved.Resolved.TheViews.{roll-Resolved}
 use Rattle.pocket_resolve.specs.declared.purpose.Purpose.{Purpose}
-use Rattle.pocket_resolve.specs.Answers.{◌>>=◌, made_of, Gives, GivesAs}
+use Rattle.pocket_types.specs.Chains.{◌>>=◌}
+use Rattle.pocket_resolve.specs.Answers.{made_of, Gives, GivesAs}
 use Rattle.pocket_resolve.specs.Filters.{Numbered, filter_step, filter_from, test_from}
 
 ok_of : {A E : Type 0} {x y : A} → (let r : Result A E = Ok x in r) ≡ Ok y → x ≡ y

@@ -14,7 +14,8 @@ use Rattle.pocket_types.specs.declared.resolved.Resolved.TheOpen as resolved
 use Rattle.pocket_types.specs.declared.resolved.Resolved.TheViews.{roll-Resolved}
 use Rattle.pocket_resolve.specs.declared.purpose.Purpose.{Purpose}
 use Rattle.pocket_types.specs.declared.faults.ResolveFault.TheVariants as fault
-use Rattle.pocket_resolve.specs.Answers.{Gives, refuse}
+use Rattle.pocket_types.specs.Chains.{refuse}
+use Rattle.pocket_resolve.specs.Answers.{Gives}
 use Rattle.pocket_resolve.specs.Filters.{Numbered, setting, test_from, filter_from, has_too_many, resolution}
 use Rattle.pocket_resolve.specs.Roots.{side}
 use Rattle.pocket_resolve.specs.Typing.{Side, sides_step, sides}

@@ -20,7 +20,7 @@ use Rattle.pocket_types.specs.declared.resolved.Step.{Step}
 use Rattle.pocket_types.specs.declared.resolved.Step.TheVariants as step
 use Rattle.pocket_resolve.specs.declared.ends.Reading.{Reading}
 use Rattle.pocket_resolve.specs.declared.ends.Reading.TheVariants.{As, Items}
-use Rattle.pocket_resolve.specs.Answers.{◌>>=◌, or_fault, refuse}
+use Rattle.pocket_types.specs.Chains.{◌>>=◌, or_refuse, refuse}
 use Rattle.pocket_resolve.specs.Fields.{collection_named, field_named, auth_field, first, caller_field, has_letters, is_like}
 use Rattle.pocket_resolve.specs.Names.{is_built_in, cut_at_via}
 use Rattle.pocket_resolve.specs.Paths.{Setting, Place, Of, Caller, Nowhere, place_named, field_at, leads_to, max_steps, may_step, may_see, no_suffix, has_built_in, forward, back_relation, backward, one_step, only_if, reading_of, with_step, leaf_read, End, built_in_end, field_end, back_end, path_end, along}
@@ -48,7 +48,7 @@ both_ok (Ok x) next y h = (x, refl, h)
 both_ok (Err e) next y h = absurd (no_value h)
 
 -- what goes on with what is there gives an answer only where it is there
-pub was_there : {A B : Type 0} (o : Option A) (e : ResolveFault) (next : A → Result B ResolveFault) (y : B) → (or_fault o e >>= next) ≡ Ok y → (x : A) × (o ≡ Some x) × (next x ≡ Ok y)
+pub was_there : {A B : Type 0} (o : Option A) (e : ResolveFault) (next : A → Result B ResolveFault) (y : B) → (or_refuse o e >>= next) ≡ Ok y → (x : A) × (o ≡ Some x) × (next x ≡ Ok y)
 was_there (Some x) e next y h = (x, refl, h)
 was_there None e next y h = absurd (no_value h)
 

@@ -20,7 +20,7 @@ use Rattle.pocket_types.specs.declared.resolved.Resolved.TheOpen as resolved
 use Rattle.pocket_types.specs.declared.resolved.Resolved.TheViews.{roll-Resolved}
 use Rattle.pocket_resolve.specs.declared.purpose.Purpose.{Purpose}
 use Rattle.pocket_resolve.specs.declared.purpose.Purpose.TheVariants as purpose
-use Rattle.pocket_resolve.specs.Answers.{◌>>=◌, refuse}
+use Rattle.pocket_types.specs.Chains.{◌>>=◌, refuse}
 use Rattle.pocket_resolve.specs.Paths.{Setting}
 use Rattle.pocket_resolve.specs.Roots.{side}
 

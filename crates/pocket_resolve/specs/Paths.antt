@@ -17,7 +17,7 @@ use Rattle.pocket_types.specs.declared.resolved.Modifier.TheVariants as modifier
 use Rattle.pocket_types.specs.declared.resolved.Prefix.{Prefix}
 use Rattle.pocket_types.specs.declared.resolved.Step.{Step}
 use Rattle.pocket_types.specs.declared.resolved.Step.TheVariants as step
-use Rattle.pocket_resolve.specs.Answers.{◌>>=◌, or_fault, refuse}
+use Rattle.pocket_types.specs.Chains.{◌>>=◌, or_refuse, refuse}
 use Rattle.pocket_resolve.specs.Fields.{collection_named, field_named, caller_field, has_letters}
 use Rattle.pocket_resolve.specs.Names.{is_built_in, cut_at_via}
 use Rattle.pocket_resolve.specs.declared.ends.Reading.{Reading}
@@ -88,17 +88,17 @@ may_step s taken part field = do
 unfoldable pub forward : Setting → Place → ℕ → Part → Result (Step × Place) ResolveFault
 forward s place taken part = do
   _ ← refuse (has_built_in place part.name) (fault.NotRelation part.name)
-  field ← or_fault (field_at s.collections place part.name) (fault.NoField part.name)
-  target ← or_fault (target_of field.kind) (fault.NotRelation part.name)
+  field ← or_refuse (field_at s.collections place part.name) (fault.NoField part.name)
+  target ← or_refuse (target_of field.kind) (fault.NotRelation part.name)
   _ ← may_step s taken part field
   Ok (step.Forward field.name, place_named s.collections target)
 
 -- the relation `name` of the collection `from` to the records of the place, with its collection
 unfoldable pub back_relation : Setting → Place → List ℕ → List ℕ → Result (Collection × Field) ResolveFault
 back_relation s place from name = do
-  collection ← or_fault (collection_named s.collections from) (fault.NoCollection from)
+  collection ← or_refuse (collection_named s.collections from) (fault.NoCollection from)
   _ ← refuse (is_built_in name) (fault.NotRelation name)
-  field ← or_fault (field_named collection name) (fault.NoField name)
+  field ← or_refuse (field_named collection name) (fault.NoField name)
   _ ← refuse (not (leads_to s.collections place field.kind)) (fault.NotRelation name)
   Ok (collection, field)
 
@@ -143,8 +143,8 @@ built_in_end s part = do
 -- a field at the end
 unfoldable pub field_end : Setting → Place → Part → Result End ResolveFault
 field_end s place part = do
-  field ← or_fault (field_at s.collections place part.name) (fault.NoField part.name)
-  reading ← or_fault (reading_of s.any field.kind part.suffix) (fault.BadModifier s.operand)
+  field ← or_refuse (field_at s.collections place part.name) (fault.NoField part.name)
+  reading ← or_refuse (reading_of s.any field.kind part.suffix) (fault.BadModifier s.operand)
   _ ← may_see s field
   Ok (field.name, reading)
 

@@ -19,7 +19,7 @@ use Rattle.pocket_types.specs.declared.resolved.Root.{Root}
 use Rattle.pocket_types.specs.declared.resolved.Root.TheVariants as root
 use Rattle.pocket_types.specs.declared.resolved.Step.TheVariants as step
 use Rattle.pocket_types.specs.declared.values.Value.TheVariants as value
-use Rattle.pocket_resolve.specs.Answers.{◌>>=◌, or_fault, refuse}
+use Rattle.pocket_types.specs.Chains.{◌>>=◌, or_refuse, refuse}
 use Rattle.pocket_resolve.specs.Fields.{collection_named, field_named}
 use Rattle.pocket_resolve.specs.Names.{is_built_in, requested_part, macro_named}
 use Rattle.pocket_resolve.specs.declared.names.Requested.{Requested}
@@ -61,7 +61,7 @@ value_modifier (Some suffix) =
 unfoldable pub value_name : Setting → List ℕ → List Part → Result (List ℕ × Modifier) ResolveFault
 value_name s behind [] = Err (fault.NoField behind)
 value_name s behind (part ∷ []) = do
-  modifier ← or_fault (value_modifier part.suffix) (fault.BadModifier s.operand)
+  modifier ← or_refuse (value_modifier part.suffix) (fault.BadModifier s.operand)
   Ok (part.name, modifier)
 value_name s behind (part ∷ next ∷ parts) = do
   _ ← no_suffix s part
@@ -97,15 +97,15 @@ body_leaf name Items = leaf.ItemOf (record { root = root.Body; steps = step.Item
 -- a sent field at the end
 unfoldable pub sent_end : Setting → Part → Result Leaf ResolveFault
 sent_end s part = do
-  field ← or_fault (body_field s part.name) (fault.NoField part.name)
-  reading ← or_fault (body_reading s.any field.kind part.suffix) (fault.BadModifier s.operand)
+  field ← or_refuse (body_field s part.name) (fault.NoField part.name)
+  reading ← or_refuse (body_reading s.any field.kind part.suffix) (fault.BadModifier s.operand)
   Ok (body_leaf field.name reading)
 
 -- a sent field that another part follows: behind a relation of the body nothing stands
 unfoldable pub sent_on : Setting → Part → Part → Result Leaf ResolveFault
 sent_on s part next = do
-  field ← or_fault (body_field s part.name) (fault.NoField part.name)
-  _ ← or_fault (target_of field.kind) (fault.NotRelation part.name)
+  field ← or_refuse (body_field s part.name) (fault.NoField part.name)
+  _ ← or_refuse (target_of field.kind) (fault.NotRelation part.name)
   _ ← no_suffix s part
   Err (fault.NoField next.name)
 
@@ -129,8 +129,8 @@ request_path requested.Auth s behind parts = along s behind place.Caller (bare r
 unfoldable pub of_request : Setting → Part → List Part → Result Leaf ResolveFault
 of_request s first parts = do
   _ ← no_suffix s first
-  second ← or_fault (first_part parts) (fault.NoField first.name)
-  which ← or_fault (requested_part second.0.name) (fault.NoField second.0.name)
+  second ← or_refuse (first_part parts) (fault.NoField first.name)
+  which ← or_refuse (requested_part second.0.name) (fault.NoField second.0.name)
   _ ← no_suffix s second.0
   request_path which s second.0.name second.1
 
@@ -138,14 +138,14 @@ of_request s first parts = do
 unfoldable pub of_collection : Setting → Part → List Part → Result Leaf ResolveFault
 of_collection s first parts = do
   _ ← no_suffix s first
-  second ← or_fault (first_part parts) (fault.NoField first.name)
-  collection ← or_fault (collection_named s.collections second.0.name) (fault.NoCollection second.0.name)
+  second ← or_refuse (first_part parts) (fault.NoField first.name)
+  collection ← or_refuse (collection_named s.collections second.0.name) (fault.NoCollection second.0.name)
   along s second.0.name (place.Of collection) (bare (root.Look collection.name (unwrap_or second.0.suffix []))) second.1
 
 -- a macro, behind which nothing stands
 unfoldable pub of_macro : Setting → Part → List Part → Result Leaf ResolveFault
 of_macro s first parts = do
-  which ← or_fault (macro_named first.name) (fault.NoField first.name)
+  which ← or_refuse (macro_named first.name) (fault.NoField first.name)
   _ ← no_suffix s first
   alone (leaf.Macro which) parts
 

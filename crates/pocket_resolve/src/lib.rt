@@ -28,6 +28,7 @@ mod resolution;
 mod sent;
 mod steps;
 
+pub use fields::collection_named;
 pub use names::cut_at_via;
 pub use pocket_types::ResolveFault;
 pub use purpose::Purpose;

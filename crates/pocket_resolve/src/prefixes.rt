@@ -2,7 +2,8 @@
 ghost use Rattle.std.specs.Prelude.{◌≡◌, ◌≤◌, IfOk, length, fold, flat_map, count_by};
 ghost use Rattle.pocket_types.specs.Paths.{with_prefix, begun};
 ghost use Rattle.pocket_types.specs.declared.faults.ResolveFault.TheVariants as fault;
-ghost use Rattle.pocket_resolve.specs.Answers.{Gives, refuse};
+ghost use Rattle.pocket_types.specs.Chains.{refuse};
+ghost use Rattle.pocket_resolve.specs.Answers.{Gives};
 ghost use Rattle.pocket_resolve.specs.Filters as filters;
 
 use pocket_types::{Prefix, ResolveFault, Resolved, Root};

@@ -28,7 +28,7 @@ use Rattle.pocket_resolve.specs.Typing.{HasField, fits}
 use Rattle.pocket_resolve.proofs.FieldLemmas.{all_given}
 use Rattle.pocket_resolve.proofs.Walks.{some_of, nothing}
 use Rattle.pocket_meaning.specs.Choosing.{IsIn}
-use Rattle.pocket_meaning.specs.Related.{field_at}
+use Rattle.pocket_ops.specs.Fields.{field_at}
 use Rattle.pocket_standing.specs.Finding.{IsRecordAt, HasCellAt}
 
 -- ---- lists

@@ -28,7 +28,8 @@ use Rattle.pocket_meaning.specs.Choices.{or_nobody}
 use Rattle.pocket_meaning.specs.Choosing.{IsIn, IsChoice, bare, then_step}
 use Rattle.pocket_meaning.specs.Members.{Member}
 use Rattle.pocket_meaning.specs.Members as member
-use Rattle.pocket_meaning.specs.Related.{field_at, held, step_list, caller_list, sent_field}
+use Rattle.pocket_ops.specs.Fields.{field_at}
+use Rattle.pocket_meaning.specs.Related.{held, step_list, caller_list, sent_field}
 use Rattle.pocket_meaning.specs.Sights.{sight}
 use Rattle.pocket_meaning.specs.Standing.{StandsOn}
 use Rattle.pocket_meaning.proofs.Standing.{in_find, home_stands, auth_stands, look_stands, forward_stands, back_stands}

@@ -25,7 +25,8 @@ use Rattle.pocket_resolve.specs.Typing.{StandsAt, fits, fits_sent}
 use Rattle.pocket_meaning.specs.Choosing.{IsIn}
 use Rattle.pocket_meaning.specs.Members.{Member}
 use Rattle.pocket_meaning.specs.Members as member
-use Rattle.pocket_meaning.specs.Related.{field_at, sent_field}
+use Rattle.pocket_ops.specs.Fields.{field_at}
+use Rattle.pocket_meaning.specs.Related.{sent_field}
 
 -- ---- records
 

@@ -26,7 +26,7 @@ fn resolve_lacks_memory(fault: ResolveFault) -> bool
 }
 
 /// The tree of a filter's text. None exactly where the text is no filter.
-fn tree_of(alloc: Global, text: &Text) -> Result<Option<Expr>, AllocError>
+fn read_filter(alloc: Global, text: &Text) -> Result<Option<Expr>, AllocError>
     ensures { IfOk result (λ found. MatchOption found ((tree : Expr) → ¬ IsFilter text.now tree) (IsOnlyTree text.now)) }
 {
     match parse(alloc, text.as_str()) {
@@ -77,7 +77,7 @@ fn filter_resolves(
 ) -> Result<bool, AllocError>
     ensures { IfOk result (λ good. MatchBool good (HoldsFilter collections.now name.now text.now) (¬ HoldsFilter collections.now name.now text.now)) }
 {
-    let Some(tree) = tree_of(alloc, text)? else {
+    let Some(tree) = read_filter(alloc, text)? else {
         return Ok(false);
     };
     let purpose = purpose_of(name)?;

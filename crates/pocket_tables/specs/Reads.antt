@@ -1,5 +1,5 @@
 -- What the reads of tables find.
-use Rattle.std.specs.Prelude.{◌≡◌, ℕ, Bool, true, false, List, [], codes, filter, find, zip, length, sum_by, Option, Some, None, All, if◌then◌else◌}
+use Rattle.std.specs.Prelude.{◌≡◌, ℕ, Bool, true, false, List, [], filter, find, length, sum_by, Option, Some, None, All}
 use Rattle.std.specs.List.{list_any}
 use Rattle.std.specs.Option.{option_map_or}
 use Rattle.std.specs.Str.{bytes_eq}
@@ -8,17 +8,14 @@ use Rattle.pocket_types.specs.Order.{is_before}
 use Rattle.pocket_types.specs.declared.expr.Op.TheVariants as op
 use Rattle.pocket_types.specs.declared.ids.Id.{Id}
 use Rattle.pocket_types.specs.declared.names.Name.{Name}
-use Rattle.pocket_types.specs.declared.records.Cell.{Cell}
-use Rattle.pocket_types.specs.declared.records.Cell.TheVariants as cell
 use Rattle.pocket_types.specs.declared.records.Collection.{Collection}
-use Rattle.pocket_types.specs.declared.records.Field.{Field}
 use Rattle.pocket_types.specs.declared.records.Rec.{Rec}
 use Rattle.pocket_types.specs.declared.values.Value.{Value}
 use Rattle.pocket_types.specs.declared.values.Value.TheVariants as value
 use Rattle.pocket_types.specs.declared.world.World.{World}
 use Rattle.pocket_ops.specs.Cells.{cell_value}
 use Rattle.pocket_ops.specs.Comparison.{compare_values}
-use Rattle.pocket_ops.specs.Dates.{date_text}
+use Rattle.pocket_ops.specs.Fields.{built_in_or, field_at, ids_of}
 use Rattle.pocket_ops.specs.Lengths.{row_len}
 use Rattle.pocket_tables.specs.Worlds.{collection_at, recs_at}
 
@@ -35,27 +32,13 @@ first_above after recs = find (is_above after) recs
 
 -- ---- fields
 
--- the first field of a name, with its cell
-abbrev pub field_at : Collection → Rec → Name → Option (Field × Cell)
-field_at c r name = find (λ x. bytes_eq x.0.name name) (zip c.fields r.cells)
-
--- the ids that a cell holds
-abbrev pub ids_of : Cell → List Id
-ids_of (cell.Refs ids) = ids
-ids_of _ = []
-
 -- whether a record's field holds an id
 abbrev pub holds_id : Collection → Name → Id → Rec → Bool
 holds_id c field id r = option_map_or (λ x. list_any (λ held. bytes_eq held id) (ids_of x.1)) (field_at c r field) false
 
 -- the value of a record's field, one of its own or one that every record has; Nothing where its collection lacks it
 abbrev pub value_at : Collection → Rec → Name → Value
-value_at c r name =
-    if bytes_eq name (codes "id") then value.Text r.id
-    else (if bytes_eq name (codes "created") then value.Text (date_text r.created)
-    else (if bytes_eq name (codes "updated") then value.Text (date_text r.updated)
-    else (if bytes_eq name (codes "collectionName") then value.Text c.name
-    else option_map_or (λ x. cell_value x.0 x.1) (field_at c r name) value.Nothing)))
+value_at c r name = built_in_or c r name (option_map_or (λ x. cell_value x.0 x.1) (field_at c r name) value.Nothing)
 
 -- whether a record's field compares equal to a value
 abbrev pub has_value : Collection → Name → Value → Rec → Bool

@@ -8,11 +8,11 @@ ghost use Rattle.pocket_types.specs.declared.values.Value.TheVariants as value;
 ghost use Rattle.pocket_ops.specs.Cells.{cell_value, date_value, items_value, tree_value};
 ghost use Rattle.pocket_ops.specs.Comparison.{compare_values};
 ghost use Rattle.pocket_ops.specs.Dates.{date_text as text_of_moment};
-ghost use Rattle.pocket_tables.specs.Reads.{IsSingle, field_at, has_value};
+ghost use Rattle.pocket_ops.specs.Fields.{field_at};
+ghost use Rattle.pocket_tables.specs.Reads.{IsSingle, has_value};
 
-use crate::fields::field_of;
 use crate::fronts::is_text_of;
-use pocket_ops::{compare, date_text};
+use pocket_ops::{compare, date_text, field_of};
 use pocket_types::{Cell, Collection, Field, Id, Jv, Moment, Name, Op, Rec, Text, Value};
 
 /// Whether a text compares equal to a value. Nothing is equal to the empty text.

@@ -1,5 +1,5 @@
 use Rattle.std.proofs.Common.{length}
-use Rattle.pocket_meaning.proofs.related.+field_among.Given as goal
+use Rattle.pocket_ops.proofs.fields.+field_among.Given as goal
 
 abbrev pub decreases-field_among : goal.decreases-field_among
 decreases-field_among l = length l.fields.now

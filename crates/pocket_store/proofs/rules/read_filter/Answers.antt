@@ -1,5 +1,5 @@
 use Rattle.pocket_store.proofs.RuleLemmas.{no_tree, one_tree}
-use Rattle.pocket_store.proofs.rules.tree_of.Goals as goal
+use Rattle.pocket_store.proofs.rules.read_filter.Goals as goal
 
 pub returns-in-Ok : goal.returns-in-Ok
 returns-in-Ok c =
