@@ -8,6 +8,7 @@ use lib.ListN.{get_elem?}
 use lib.Seq.{set-get_or}
 use prog.Atomic.{either}
 use Rattle.std.proofs.Math.Nat.{mod-eq_of_lt}
+use Rattle.std.proofs.lemmas.Bool.{false≢true}
 use Rattle.std.proofs.lemmas.List.{set_comm}
 use Rattle.atomic_table.specs.Table.{State, step, Act, keeps, takes, gives, Valid, carried_after, stepped, Allows, Splits, Joins, opening as opening_of}
 use Rattle.atomic_table.proofs.Lists.{at_set, set_else, at_longer}
@@ -15,13 +16,14 @@ use Rattle.pocket_desk.specs.declared.view.Entry.{Entry}
 use Rattle.pocket_desk.specs.declared.view.Call.{Call}
 use Rattle.pocket_desk.specs.declared.view.Stage.{Stage}
 use Rattle.pocket_desk.specs.declared.view.Stage.TheVariants.{Idle, Waiting, Serving, Closing}
-use Rattle.pocket_desk.specs.declared.view.Pending.TheVariants.{Nothing}
+use Rattle.pocket_desk.specs.declared.view.Pending.{Pending}
+use Rattle.pocket_desk.specs.declared.view.Pending.TheVariants.{Nothing, Other}
 use Rattle.pocket_desk.specs.declared.view.View.{View}
-use Rattle.pocket_desk.specs.History.{entry, works}
-use Rattle.pocket_desk.specs.View.{at_stage, seeing, entered, answered, merged_view, first_view, left_view, right_view, joined_view, spent_view}
-use Rattle.pocket_desk.specs.Lock.{IsLive, HasTicket, IsAtTurn, StageHolds, Knows, ViewHolds, AreApart, AllHold, PendingHolds, Claims, SlotHolds, LockHolds}
+use Rattle.pocket_desk.specs.History.{Holds, Owns, entry, numbers, works}
+use Rattle.pocket_desk.specs.View.{all_joined, at_stage, seeing, entered, answered, merged_view, first_view, left_view, right_view, joined_view, spent_view}
+use Rattle.pocket_desk.specs.Lock.{IsLive, HasTicket, IsAtTurn, StageHolds, Knows, ViewHolds, AreApart, AllHold, PendingHolds, Claims, SlotHolds, LockHolds, held}
 use Rattle.pocket_desk.specs.Steps.{Mine, TakesTicket, GetsTurn, LooksAtServing, AddsToLength, AddsToServing, Closes, Merges}
-use Rattle.pocket_desk.proofs.Histories.{begins_longer, begins_merged, claims_own, claims_self, claims_left, right_owns, pending_more, exactly_more, exactly_grows, exactly_left, exactly_right}
+use Rattle.pocket_desk.proofs.Histories.{begins_longer, begins_merged, claims_own, claims_self, claims_left, claims_merged, holds_alone, holds_both, holds_either, holds_own, holds_right, late_merged, left_owns, none_fewer, none_more, right_owns, pending_more, exactly_more, exactly_grows, exactly_left, exactly_right, holds_left}
 use Rattle.pocket_desk.proofs.Views.{all_hold, all_hold_snoc, all_apart, all_apart_snoc, all_out, all_out_snoc, stage_more, ticket_below, turn_has, built, unmoved, slot_stays, slot_taken, served_steps, idle_changes, idle_leaves}
 
 abbrev ticket_of : Stage → ℕ
@@ -42,7 +44,7 @@ module _ {M W R O : Type 0} (opening : M → O) (history : M → List W) (opened
       room (omega arith) (all_out T (T + 1) S S s.views id v w at (omega arith) r.out (λ n _ h. absurd (subst (λ st. HasTicket st n) idle h))
       (λ n _ lt. dite (ℕ_discrete T n) (λ (same : T ≡ n). inr same) (λ (ne : T ≢ n). inl (omega arith))))
       (slot_stays opening history opened r.log s.homes s.views id v w at (λ b. subst IsAtTurn idle b) r.slot)
-      (all_hold opened (T + 1) S r.log s.homes s.views id w record { stage = (order, omega arith); knows = λ _. record { opened_is = k.opened_is; number_below = k.number_below; seen = k.seen; own = k.own; pending = k.pending } }
+      (all_hold opened (T + 1) S r.log s.homes s.views id w record { stage = (order, omega arith); knows = λ _. record { opened_is = k.opened_is; number_below = k.number_below; seen = k.seen; late = k.late; own = k.own; apart = k.apart; pending = k.pending } }
       (λ j u ne e. let q = r.views j u e in record { stage = stage_more T (T + 1) S r.log s.homes u u.stage (omega arith) q.stage; knows = q.knows }))
       (all_apart s.views id w r.apart (λ j u ne e. let a = r.apart id j v u (λ same. ne (sym same)) at e in record {
         tickets = λ n h h'. let b = ticket_below T S r.log s.homes u u.stage n (r.views j u e).stage h' in let is : T ≡ n = h in omega arith;
@@ -90,9 +92,9 @@ module _ {M W R O : Type 0} (opening : M → O) (history : M → List W) (opened
         subst (λ ws. LockHolds opening history opened record { words = ws; homes = set s.homes 0 none; views = set s.views id w }) (sym (set-get_or s.words 1 0))
             (served_steps opening history opened s id m.0 w s.words (set s.homes 0 none) S r.log r at mine live r.words refl refl r.length_is (omega arith) (omega arith) order
             (λ n h. subst (λ st. HasTicket st n) (sym waits) h) (λ n _ h. subst (λ st. HasTicket st n) waits h) (λ n c. c) (refl, below.1, refl, out)
-            record { opened_is = k.opened_is; number_below = k.number_below; seen = ([], sym (append-nil r.log)); own = k.own; pending = k.pending }
+            record { opened_is = k.opened_is; number_below = k.number_below; seen = ([], sym (append-nil r.log)); late = tt; own = k.own; apart = k.apart; pending = k.pending }
             (λ j u ne e l ku. ku) (slot_taken opening history opened r.log (set s.homes 0 none) s.views id m.0 w at tt)),
-        record { log = r.log; machine = machine; now = refl; opening_is = λ o e. home.2 ∙ same_opening m.0 k.opened_is o e; history_is = home.3; seen = k.seen; own = k.own },
+        record { log = r.log; machine = machine; now = refl; opening_is = λ o e. home.2 ∙ same_opening m.0 k.opened_is o e; history_is = home.3; seen = k.seen; late = k.late; own = k.own },
       )
   gets_turn slots id m s r waits at (inr out) = let j = out.0 in let u = out.1 in let S : ℕ = get_or s.words 1 0 in
       dite (ℕ_discrete j id)
@@ -143,16 +145,20 @@ module _ {M W R O : Type 0} (opening : M → O) (history : M → List W) (opened
               opened_is = k.opened_is;
               number_below = k.number_below;
               seen = ([], sym (append-nil (v.seen ++ e) ∙ ap (λ l. l ++ e) stage.2));
+              late = tt;
               own = exactly_grows r.log v.number v.stride work v.mine k.own;
-              pending = subst (PendingHolds (r.log ++ e)) (sym alone) tt;
+              apart = k.apart;
+              pending = subst (PendingHolds (r.log ++ e) (held v)) (sym alone) tt;
             }
             (λ j u ne at_j l ku. let a = r.apart id j v u (λ same. ne (sym same)) here at_j in
-            let free : Claims u.number u.stride u.pending v.number → ⊥ = λ c. a.numbers live l v.number (claims_self v.number v.stride v.pending k.number_below) c in record {
+            let free : Claims (held u) u.pending v.number → ⊥ = λ c. a.numbers live l v.number (claims_self v.number v.stride v.joined v.pending k.number_below) c in record {
               opened_is = ku.opened_is;
               number_below = ku.number_below;
               seen = begins_longer r.log u.seen e ku.seen;
-              own = exactly_more r.log u.number u.stride v.number work u.mine ku.number_below (λ o. free (claims_own u.number u.stride v.number u.pending o)) ku.own;
-              pending = pending_more r.log u.number u.stride v.number work u.pending free ku.pending;
+              late = none_more (held u) ku.seen.0 v.number work (λ h. free (claims_own (held u) v.number u.pending h)) ku.late;
+              own = exactly_more r.log u.number u.stride v.number work u.mine ku.number_below (λ o. free (claims_own (held u) v.number u.pending (holds_own u.number u.stride v.number u.joined o))) ku.own;
+              apart = ku.apart;
+              pending = pending_more r.log (held u) v.number work u.pending free ku.pending;
             })
             (slot_taken opening history opened (r.log ++ e) s.homes s.views id v w here (subst IsAtTurn (sym serves) tt)),
         λ work' says'. ap (λ z. (entered v (unwrap_or z work), m.1)) (sym says ∙ says'),
@@ -179,7 +185,7 @@ module _ {M W R O : Type 0} (opening : M → O) (history : M → List W) (opened
             (length-set s.words 1 ((S + 1) % 2 ^ 64) ∙ words) (get_or-set_other s.words 1 0 ((S + 1) % 2 ^ 64) 0 (λ e. omega arith)) (get_or-set_same s.words 1 ((S + 1) % 2 ^ 64) 0 (omega arith) ∙ next)
             (get_or-set_other s.words 1 2 ((S + 1) % 2 ^ 64) 0 (λ e. omega arith) ∙ r.length_is) (omega arith) (omega arith) (omega arith)
             (λ n h. absurd h) (λ n from h. let is : t ≡ n = subst (λ st. HasTicket st n) serves h in let at : t ≡ S = stage.0 in absurd (omega arith)) (λ n c. c) tt
-            record { opened_is = k.opened_is; number_below = k.number_below; seen = k.seen; own = k.own; pending = k.pending }
+            record { opened_is = k.opened_is; number_below = k.number_below; seen = k.seen; late = k.late; own = k.own; apart = k.apart; pending = k.pending }
             (λ j u ne at_j l ku. ku)
             (inl (machine, home, opening_is, history_is ∙ ap works stage.2)),
         λ call' says'. ap (λ z. (answered v (unwrap_or z call), [])) (sym says ∙ says'),
@@ -209,7 +215,7 @@ module _ {M W R O : Type 0} (opening : M → O) (history : M → List W) (opened
         subst (λ ws. LockHolds opening history opened record { words = ws; homes = set s.homes 0 (some None); views = set s.views id w }) (sym (set-get_or s.words 1 0))
             (served_steps opening history opened s id v w s.words (set s.homes 0 (some None)) S r.log r here mine live r.words refl refl r.length_is (omega arith) (omega arith) order
             (λ n h. subst (λ st. HasTicket st n) (sym serves) h) (λ n _ h. subst (λ st. HasTicket st n) serves h) (λ n c. c) (stage.0, stage.1, home)
-            record { opened_is = k.opened_is; number_below = k.number_below; seen = k.seen; own = k.own; pending = k.pending }
+            record { opened_is = k.opened_is; number_below = k.number_below; seen = k.seen; late = k.late; own = k.own; apart = k.apart; pending = k.pending }
             (λ j u ne at_j l ku. ku)
             (slot_taken opening history opened r.log (set s.homes 0 (some None)) s.views id v w here tt)),
         λ t' serves'. ap (λ z. (at_stage v (Closing (ticket_of z)), [])) (sym serves ∙ serves'),
@@ -219,6 +225,13 @@ module _ {M W R O : Type 0} (opening : M → O) (history : M → List W) (opened
   closes slots id m t slot serves =
       subst (λ (c : List (ℕ × Option M)). Allows (LockHolds opening history opened) slots id (m.0, c) 1 (λ n. n) (Closes (step slots 1 0 0 none) (m.0, c))) (sym slot) (closes_at slots id m.0 t serves)
 
+  -- the numbers that a seat merges are none of its own
+  merged_apart : (log : List (Entry W)) (v : View M W R) → ((n : ℕ) → Owns v.number v.stride n → Holds v.joined n → ⊥) → (p : Pending W) → PendingHolds log (held v) p
+      → (n : ℕ) → Owns v.number v.stride n → Holds (all_joined v.joined p) n → ⊥
+  merged_apart log v apart Nothing k n o h = apart n o h
+  merged_apart log v apart (Other other theirs seen mine) k n o h =
+      ⊎_elim (apart n o) (k.apart n (holds_own v.number v.stride n v.joined o)) (holds_both v.joined theirs n h)
+
   -- an idle seat merges what it was joined with
   pub merges : (slots id : ℕ) (m : Mine M W R) → m.0.stage ≡ Idle → Allows (LockHolds opening history opened) slots id m 1 (λ n. n) (Merges (step slots 1 0 0 none) m)
   merges slots id m idle s r _ at _ = let v : View M W R = m.0 in let live : IsLive v.stage = subst IsLive (sym idle) tt in let k = (r.views id v at).knows live in (
@@ -226,9 +239,18 @@ module _ {M W R O : Type 0} (opening : M → O) (history : M → List W) (opened
     keeps,
     tt,
     subst (λ ws. LockHolds opening history opened record { words = ws; homes = s.homes; views = set s.views id (merged_view v) }) (sym (set-get_or s.words 1 0))
-        (idle_changes opening history opened s id v (merged_view v) r at idle idle record { opened_is = k.opened_is; number_below = k.number_below; seen = begins_merged r.log v.seen v.pending k.seen k.pending; own = k.own; pending = tt }
-        (λ j u ne e l n p q. (r.apart id j v u (λ same. ne (sym same)) at e).numbers live l n (claims_own v.number v.stride n v.pending p) q)),
-    (refl, (r.log, k.seen, k.own, k.pending)),
+        (idle_changes opening history opened s id v (merged_view v) r at idle idle
+        record {
+          opened_is = k.opened_is;
+          number_below = k.number_below;
+          seen = begins_merged r.log v.seen (held v) v.pending k.seen k.pending;
+          late = late_merged r.log v.seen (numbers v.number v.stride) v.joined v.pending k.seen k.pending k.late;
+          own = k.own;
+          apart = merged_apart r.log v k.apart v.pending k.pending;
+          pending = tt;
+        }
+        (λ j u ne e l n p q. (r.apart id j v u (λ same. ne (sym same)) at e).numbers live l n (claims_merged v.number v.stride n v.joined v.pending p) q)),
+    (refl, (r.log, k.seen.0, k.seen.1, k.late, k.own, k.pending)),
   )
 
   -- an idle seat is cut in two
@@ -237,9 +259,25 @@ module _ {M W R O : Type 0} (opening : M → O) (history : M → List W) (opened
       let T : ℕ = get_or s.words 0 0 in let S : ℕ = get_or s.words 1 0 in
       let live : IsLive v.stage = subst IsLive (sym idle) tt in let k = (r.views id v at).knows live in let below = k.number_below in
       let a : View M W R = left_view v in let b : View M W R = right_view v in
-      let left : Knows opened r.log a = record { opened_is = k.opened_is; number_below = omega arith; seen = k.seen; own = exactly_left r.log v.number v.stride v.mine below k.own; pending = k.pending } in
-      let right : Knows opened r.log b = record { opened_is = k.opened_is; number_below = omega arith; seen = k.seen; own = exactly_right r.log v.number v.stride v.mine below k.own; pending = tt } in
-      let c = idle_changes opening history opened s id v a r at idle idle left (λ j u ne e l n p q. (r.apart id j v u (λ same. ne (sym same)) at e).numbers live l n (claims_left v.number v.stride n v.pending below p) q) in
+      let left : Knows opened r.log a = record {
+        opened_is = k.opened_is;
+        number_below = omega arith;
+        seen = k.seen;
+        late = none_fewer (held v) (held a) k.seen.0 (λ n h. holds_left v.number v.stride n v.joined below h) k.late;
+        own = exactly_left r.log v.number v.stride v.mine below k.own;
+        apart = λ n o h. k.apart n (left_owns v.number v.stride n below o) h;
+        pending = subst (PendingHolds r.log (held a)) (sym alone) tt;
+      } in
+      let right : Knows opened r.log b = record {
+        opened_is = k.opened_is;
+        number_below = omega arith;
+        seen = k.seen;
+        late = none_fewer (held v) (held b) k.seen.0 (λ n h. holds_right v.number v.stride n v.joined below h) k.late;
+        own = exactly_right r.log v.number v.stride v.mine below k.own;
+        apart = λ n o h. false≢true h;
+        pending = tt;
+      } in
+      let c = idle_changes opening history opened s id v a r at idle idle left (λ j u ne e l n p q. (r.apart id j v u (λ same. ne (sym same)) at e).numbers live l n (claims_left v.number v.stride n v.joined v.pending below p) q) in
       built opening history opened s.words s.homes (set s.views id a ++ b ∷ []) T S r.log r.words refl refl r.length_is r.tickets_left r.order
       (all_out_snoc T S (set s.views id a) b c.out)
       (⊎_elim (λ h. inl h) (λ o. inr (o.0, o.1, at_longer (set s.views id a) (b ∷ []) o.0 o.1 o.2, o.3)) (slot_stays opening history opened r.log s.homes s.views id v a at (λ h. subst IsAtTurn idle h) r.slot))
@@ -249,11 +287,14 @@ module _ {M W R O : Type 0} (opening : M → O) (history : M → List W) (opened
       (all_apart_snoc (set s.views id a) b c.apart (λ j u e. ⊎_elim
       (λ (t : (j ≡ id) × (a ≡ u)). subst (λ (z : View M W R). AreApart b z) t.1 record {
         tickets = λ n h h'. subst (λ st. HasTicket st n) idle h;
-        numbers = λ _ _ n p q. let q' : n % (v.stride + v.stride) ≡ v.number = subst (λ g. Claims v.number (v.stride + v.stride) g n) alone q in let p' : n % (v.stride + v.stride) ≡ v.number + v.stride = p in absurd (omega arith);
+        numbers = λ _ _ n p q. let p' : n % (v.stride + v.stride) ≡ v.number + v.stride = holds_alone (v.number + v.stride) (v.stride + v.stride) n p in
+            let q' : Holds (held a) n = subst (λ g. Claims (held a) g n) alone q in
+            ⊎_elim (λ (o : n % (v.stride + v.stride) ≡ v.number). absurd (omega arith)) (λ h. k.apart n (right_owns v.number v.stride n below p') h)
+            (holds_either v.number (v.stride + v.stride) n v.joined q');
       })
       (λ (t : (j ≢ id) × (get_elem? s.views j ≡ some u)). record {
         tickets = λ n h h'. subst (λ st. HasTicket st n) idle h;
-        numbers = λ _ l n p q. (r.apart id j v u (λ same. t.0 (sym same)) at t.1).numbers live l n (claims_own v.number v.stride n v.pending (right_owns v.number v.stride n below p)) q;
+        numbers = λ _ l n p q. (r.apart id j v u (λ same. t.0 (sym same)) at t.1).numbers live l n (claims_own (held v) n v.pending (holds_right v.number v.stride n v.joined below p)) q;
       })
       (at_set s.views id j a u e)))
 
@@ -269,12 +310,26 @@ module _ {M W R O : Type 0} (opening : M → O) (history : M → List W) (opened
       let at' : get_elem? (set s.views other z) id ≡ some v = set_else s.views other id z back ∙ at in
       subst (λ vs. LockHolds opening history opened record { words = s.words; homes = s.homes; views = vs }) (set_comm s.views other id z b apart)
       (idle_changes opening history opened record { words = s.words; homes = s.homes; views = set s.views other z } id v b gone.0 at' idle idle
-      (subst (λ log. Knows opened log b) (sym gone.1) record { opened_is = k.opened_is; number_below = k.number_below; seen = k.seen; own = k.own; pending = (k'.seen, k'.own.0) })
+      (subst (λ log. Knows opened log b) (sym gone.1) record {
+        opened_is = k.opened_is;
+        number_below = k.number_below;
+        seen = k.seen;
+        late = k.late;
+        own = k.own;
+        apart = k.apart;
+        pending = record {
+          begins = k'.seen;
+          late = k'.late;
+          own = k'.own.0;
+          number_held = holds_own w.number w.stride w.number w.joined (mod-eq_of_lt k'.number_below);
+          apart = λ n h h'. (r.apart id other v w back at there').numbers live live' n (claims_own (held v) n v.pending h) (claims_own (held w) n w.pending h');
+        };
+      })
       (λ j u ne e l n p q. ⊎_elim
       (λ (t : (j ≡ other) × (z ≡ u)). subst (λ (x : View M W R). IsLive x.stage) (sym t.1) l)
       (λ (t : (j ≢ other) × (get_elem? s.views j ≡ some u)). ⊎_elim
-      (λ o. (r.apart id j v u (λ same. ne (sym same)) at t.1).numbers live l n (claims_own v.number v.stride n v.pending o) q)
-      (λ (o : n ≡ w.number). (r.apart other j w u (λ same. t.0 (sym same)) there' t.1).numbers live' l n (subst (λ (y : ℕ). Claims w.number w.stride w.pending y) (sym o) (claims_self w.number w.stride w.pending k'.number_below)) q)
+      (λ o. (r.apart id j v u (λ same. ne (sym same)) at t.1).numbers live l n (claims_own (held v) n v.pending o) q)
+      (λ o. (r.apart other j w u (λ same. t.0 (sym same)) there' t.1).numbers live' l n (claims_own (held w) n w.pending o) q)
       p)
       (at_set s.views other j z u e)))
 
@@ -294,7 +349,7 @@ module _ {M W R O : Type 0} (opening : M → O) (history : M → List W) (opened
     where
       one : AllHold {W = W} {R = R} opened 0 0 [] (some (Some opened) ∷ []) (first_view opened ∷ [])
       one zero v e = subst (λ (x : View M W R). ViewHolds opened 0 0 [] (some (Some opened) ∷ []) x) (some-injective _ _ e)
-          record { stage = tt; knows = λ _. record { opened_is = refl; number_below = omega arith; seen = ([], refl); own = (refl, λ n o ne. refl); pending = tt } }
+          record { stage = tt; knows = λ _. record { opened_is = refl; number_below = omega arith; seen = ([], refl); late = tt; own = (refl, λ n o ne. refl); apart = λ n o h. false≢true h; pending = tt } }
       one (suc j) v e = absurd (some-ne-none v (sym e))
 
       only : (i j : ℕ) (v w : View M W R) → i ≢ j → get_elem? (first_view opened ∷ []) i ≡ some v → get_elem? (first_view opened ∷ []) j ≡ some w → ⊥

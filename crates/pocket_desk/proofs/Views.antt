@@ -11,7 +11,7 @@ use Rattle.pocket_desk.specs.declared.view.Entry.{Entry}
 use Rattle.pocket_desk.specs.declared.view.Stage.{Stage}
 use Rattle.pocket_desk.specs.declared.view.Stage.TheVariants.{Idle, Waiting, Serving, Closing, Joined}
 use Rattle.pocket_desk.specs.declared.view.View.{View}
-use Rattle.pocket_desk.specs.Lock.{IsLive, HasTicket, IsAtTurn, StageHolds, Knows, ViewHolds, AreApart, AllHold, AllApart, AllOut, Claims, SlotHolds, LockHolds}
+use Rattle.pocket_desk.specs.Lock.{IsLive, HasTicket, IsAtTurn, StageHolds, Knows, ViewHolds, AreApart, AllHold, AllApart, AllOut, Claims, SlotHolds, LockHolds, held}
 
 at_snoc_below : {A : Type 0} (l : List A) (a b : A) (j : ℕ) → get_elem? (l ++ a ∷ []) j ≡ some b → ((j ≡ length l) × (a ≡ b)) ⊎ ((j < length l) × (get_elem? l j ≡ some b))
 at_snoc_below [] a b zero e = inl (refl, some-injective a b e)
@@ -131,7 +131,7 @@ module _ {M W R O : Type 0} (opening : M → O) (history : M → List W) (opened
       → get_elem? s.views id ≡ some v → HasTicket v.stage (get_or s.words 1 0) → IsLive v.stage
       → length ws ≡ 3 → get_or ws 0 0 ≡ get_or s.words 0 0 → get_or ws 1 0 ≡ S' → get_or ws 2 0 ≡ length log → get_or s.words 1 0 ≤ S' → S' ≤ get_or s.words 1 0 + 1 → S' ≤ get_or s.words 0 0
       → ((n : ℕ) → HasTicket w.stage n → HasTicket v.stage n) → ((n : ℕ) → S' ≤ n → HasTicket v.stage n → HasTicket w.stage n)
-      → ((n : ℕ) → Claims w.number w.stride w.pending n → Claims v.number v.stride v.pending n)
+      → ((n : ℕ) → Claims (held w) w.pending n → Claims (held v) v.pending n)
       → StageHolds (get_or s.words 0 0) S' log hs w w.stage → Knows opened log w
       → ((j : ℕ) (u : View M W R) → j ≢ id → get_elem? s.views j ≡ some u → IsLive u.stage → Knows opened r.log u → Knows opened log u)
       → SlotHolds opening history opened log hs (set s.views id w) → LockHolds opening history opened record { words = ws; homes = hs; views = set s.views id w }
@@ -144,7 +144,7 @@ module _ {M W R O : Type 0} (opening : M → O) (history : M → List W) (opened
 
   -- an idle seat changes
   pub idle_changes : (s : State (Option M) (View M W R)) (id : ℕ) (v w : View M W R) (r : LockHolds opening history opened s) → get_elem? s.views id ≡ some v → v.stage ≡ Idle → w.stage ≡ Idle
-      → Knows opened r.log w → ((j : ℕ) (u : View M W R) → j ≢ id → get_elem? s.views j ≡ some u → IsLive u.stage → (n : ℕ) → Claims w.number w.stride w.pending n → Claims u.number u.stride u.pending n → ⊥)
+      → Knows opened r.log w → ((j : ℕ) (u : View M W R) → j ≢ id → get_elem? s.views j ≡ some u → IsLive u.stage → (n : ℕ) → Claims (held w) w.pending n → Claims (held u) u.pending n → ⊥)
       → LockHolds opening history opened record { words = s.words; homes = s.homes; views = set s.views id w }
   idle_changes s id v w r at idle still knows claims = let T : ℕ = get_or s.words 0 0 in let S : ℕ = get_or s.words 1 0 in
       built s.words s.homes (set s.views id w) T S r.log r.words refl refl r.length_is r.tickets_left r.order

@@ -9,7 +9,8 @@ use Rattle.pocket_desk.specs.declared.view.Stage.TheVariants.{Waiting, Serving, 
 use Rattle.pocket_desk.specs.declared.view.Pending.{Pending}
 use Rattle.pocket_desk.specs.declared.view.Pending.TheVariants.{Nothing, Other}
 use Rattle.pocket_desk.specs.declared.view.View.{View}
-use Rattle.pocket_desk.specs.History.{works, works_by, BeginsWith, Owns, HasExactly}
+use Rattle.pocket_desk.specs.declared.view.Numbers.{Numbers}
+use Rattle.pocket_desk.specs.History.{numbers, works, works_by, BeginsWith, Owns, HasExactly, HasNoneOf, Holds}
 
 -- the seat was not joined to another
 abbrev pub IsLive : Stage → Type 0
@@ -29,17 +30,29 @@ IsAtTurn (Closing t) = Unit {0}
 IsAtTurn _ = ⊥
 
 module _ {W : Type 0} where
-  -- what a joined seat had seen is a beginning of the history, which has its works and no others of its number
-  abbrev pub PendingHolds : List (Entry W) → Pending W → Type 0
-  PendingHolds log Nothing = Unit {0}
-  PendingHolds log (Other number seen mine) = BeginsWith log seen × (works_by number log ≡ mine)
+  -- what a joined seat had seen is a beginning of the history, with all that came by the numbers that it held; the seat
+  -- that it was joined to holds none of these, and its own number has its works
+  pub record OtherHolds (log : List (Entry W)) (held : List Numbers) (number : ℕ) (theirs : List Numbers) (seen : List (Entry W)) (mine : List W) : Type 0 where
+    pub begins : BeginsWith log seen
+    pub late : HasNoneOf theirs begins.0
+    pub own : works_by number log ≡ mine
+    pub number_held : Holds theirs number
+    pub apart : (n : ℕ) → Holds held n → Holds theirs n → ⊥
+
+  abbrev pub PendingHolds : List (Entry W) → List Numbers → Pending W → Type 0
+  PendingHolds log held Nothing = Unit {0}
+  PendingHolds log held (Other number theirs seen mine) = OtherHolds log held number theirs seen mine
 
   -- the numbers that no other live seat may have
-  abbrev pub Claims : ℕ → ℕ → Pending W → ℕ → Type 0
-  Claims number stride Nothing n = Owns number stride n
-  Claims number stride (Other other seen mine) n = Owns number stride n ⊎ (n ≡ other)
+  abbrev pub Claims : List Numbers → Pending W → ℕ → Type 0
+  Claims held Nothing n = Holds held n
+  Claims held (Other other theirs seen mine) n = Holds held n ⊎ Holds theirs n
 
 module _ {M W R : Type 0} where
+  -- the numbers that are a seat's own, with those of the seats that were joined to it
+  abbrev pub held : View M W R → List Numbers
+  held v = numbers v.number v.stride ∷ v.joined
+
   -- what the words and the slot are while a seat is at a stage
   abbrev pub StageHolds : ℕ → ℕ → List (Entry W) → List (Place (Option M)) → View M W R → Stage → Type 0
   StageHolds ticket serving log homes v (Waiting t) = (serving ≤ t) × (t < ticket)
@@ -52,8 +65,10 @@ module _ {M W R : Type 0} where
     pub opened_is : v.opened ≡ Some opened
     pub number_below : v.number < v.stride
     pub seen : BeginsWith log v.seen
+    pub late : HasNoneOf (held v) seen.0
     pub own : HasExactly v.number v.stride v.mine log
-    pub pending : PendingHolds log v.pending
+    pub apart : (n : ℕ) → Owns v.number v.stride n → Holds v.joined n → ⊥
+    pub pending : PendingHolds log (held v) v.pending
 
   pub record ViewHolds (opened : M) (ticket serving : ℕ) (log : List (Entry W)) (homes : List (Place (Option M))) (v : View M W R) : Type 0 where
     pub stage : StageHolds ticket serving log homes v v.stage
@@ -62,7 +77,7 @@ module _ {M W R : Type 0} where
   -- two seats have different tickets, and no number in common
   pub record AreApart (v w : View M W R) : Type 0 where
     pub tickets : (n : ℕ) → HasTicket v.stage n → HasTicket w.stage n → ⊥
-    pub numbers : IsLive v.stage → IsLive w.stage → (n : ℕ) → Claims v.number v.stride v.pending n → Claims w.number w.stride w.pending n → ⊥
+    pub numbers : IsLive v.stage → IsLive w.stage → (n : ℕ) → Claims (held v) v.pending n → Claims (held w) w.pending n → ⊥
 
   abbrev pub AllHold : M → ℕ → ℕ → List (Entry W) → List (Place (Option M)) → List (View M W R) → Type 0
   AllHold opened ticket serving log homes views = (j : ℕ) (v : View M W R) → get_elem? views j ≡ some v → ViewHolds opened ticket serving log homes v

@@ -7,8 +7,10 @@ use Rattle.pocket_desk.specs.declared.view.Entry.{Entry}
 use Rattle.pocket_desk.specs.declared.view.Call.{Call}
 use Rattle.pocket_desk.specs.declared.view.Stage.TheVariants.{Idle}
 use Rattle.pocket_desk.specs.declared.view.Pending.TheVariants.{Nothing}
+use Rattle.pocket_desk.specs.declared.view.Numbers.{Numbers}
 use Rattle.pocket_desk.specs.declared.view.View.{View}
-use Rattle.pocket_desk.specs.History.{entry, works, works_by, longer, BeginsWith, HasExactly}
+use Rattle.pocket_desk.specs.History.{entry, works, works_by, works_held, longer, BeginsWith, HasExactly, Holds, IsInterleaved}
+use Rattle.pocket_desk.specs.Lock.{held}
 use Rattle.pocket_desk.specs.View.{call_of}
 
 -- which desk it is, and the machine that it was opened with
@@ -23,8 +25,10 @@ pub record DeskView (M : Type 0) : Type 0 where
 pub record PassView (M W R : Type 0) : Type 0 where
   pub desk : DeskName M
   pub number : ℕ
+  pub held : List Numbers
   pub seen : List (Entry W)
   pub mine : List W
+  pub ours : List W
   pub calls : List (Call W R)
 
 abbrev pub desk_name : {M : Type 0} → TableId → M → DeskName M
@@ -32,7 +36,7 @@ desk_name lock opened = record { lock = lock; opened = Some opened }
 
 module _ {M W R : Type 0} where
   abbrev pub view_at : TableId → Me (Option M) (View M W R) → PassView M W R
-  view_at lock m = record { desk = record { lock = lock; opened = m.0.opened }; number = m.0.number; seen = m.0.seen; mine = m.0.mine; calls = m.0.calls }
+  view_at lock m = record { desk = record { lock = lock; opened = m.0.opened }; number = m.0.number; held = held m.0; seen = m.0.seen; mine = m.0.mine; ours = works_held (held m.0) m.0.seen; calls = m.0.calls }
 
   abbrev pub pass_view : Seat (Option M) (View M W R) → PassView M W R
   pass_view s = view_at s.table_id s.me
@@ -56,10 +60,16 @@ module _ {M W R : Type 0} where
   abbrev pub KnowsOwnWorks : PassView M W R → Type 0
   KnowsOwnWorks p = works_by p.number p.seen ≡ p.mine
 
+  -- every number is its own, or one of the passes that were joined to it: each pass that there was is one of these
+  abbrev pub IsWhole : PassView M W R → Type 0
+  IsWhole p = (n : ℕ) → Holds p.held n
+
   -- it has seen nothing
   pub record IsNew (p : PassView M W R) : Type 0 where
+    pub whole : IsWhole p
     pub seen : p.seen ≡ []
     pub mine : p.mine ≡ []
+    pub ours : p.ours ≡ []
     pub calls : p.calls ≡ []
 
   abbrev pub works_before : ℕ → PassView M W R → List W
@@ -70,16 +80,19 @@ module _ {M W R : Type 0} where
     pub length_is : length q.seen ≡ position + 1
     pub last : q.seen ≡ take position q.seen ++ entry p.number work ∷ []
     pub mine : q.mine ≡ p.mine ++ work ∷ []
+    pub ours : q.ours ≡ p.ours ++ work ∷ []
 
   -- the work was not entered, and the pass has seen all that stands before the position
   pub record IsNotEntered (position : ℕ) (p q : PassView M W R) : Type 0 where
     pub length_is : length q.seen ≡ position
     pub mine : q.mine ≡ p.mine
+    pub ours : q.ours ≡ p.ours
 
   -- a call at some position of the history, not before what the pass had seen
   pub record IsCall (fits : List W → W → R → Bool → Type 0) (enters : List W → W → R → Type 0) (p : PassView M W R) (work : W) (q : PassView M W R) (reply : R) : Type 0 where
     pub position : ℕ
     pub number : q.number ≡ p.number
+    pub held : q.held ≡ p.held
     pub not_before : length p.seen ≤ position
     pub seen_grows : BeginsWith q.seen p.seen
     pub reply_fits : (risen : Bool) × fits (works_before position q) work reply risen
@@ -90,13 +103,17 @@ module _ {M W R : Type 0} where
   pub record IsSplit (p one two : PassView M W R) : Type 0 where
     pub seen : (one.seen ≡ p.seen) × (two.seen ≡ p.seen)
     pub number : (one.number ≡ p.number) × (two.number ≢ p.number)
+    pub held : (n : ℕ) → Holds p.held n → Holds one.held n ⊎ Holds two.held n
     pub mine : (one.mine ≡ p.mine) × (two.mine ≡ [])
+    pub ours : (one.ours ≡ p.ours) × (two.ours ≡ [])
     pub calls : (one.calls ≡ p.calls) × (two.calls ≡ [])
 
   -- it goes on as the first, has seen what either had, and keeps the calls of both
   pub record IsJoin (one two p : PassView M W R) : Type 0 where
     pub number : p.number ≡ one.number
+    pub held : (n : ℕ) → Holds one.held n ⊎ Holds two.held n → Holds p.held n
     pub mine : p.mine ≡ one.mine
+    pub ours : IsInterleaved one.ours two.ours p.ours
     pub calls : p.calls ≡ one.calls ++ two.calls
     pub seen : p.seen ≡ longer one.seen two.seen
     pub begins : BeginsWith p.seen one.seen × BeginsWith p.seen two.seen

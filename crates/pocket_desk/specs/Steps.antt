@@ -1,13 +1,13 @@
 -- What each step tells the seat that steps.
-use Rattle.std.specs.Prelude.{◌≡◌, ◌≢◌, ℕ, List, ◌∷◌, Option, Some}
+use Rattle.std.specs.Prelude.{◌≡◌, ◌≢◌, ℕ, List, ◌∷◌, ◌++◌, Option, Some}
 use Rattle.atomic_table.specs.Table.{Me, Step, rest}
 use Rattle.pocket_desk.specs.declared.view.Entry.{Entry}
 use Rattle.pocket_desk.specs.declared.view.Call.{Call}
 use Rattle.pocket_desk.specs.declared.view.Stage.TheVariants.{Waiting, Serving, Closing}
 use Rattle.pocket_desk.specs.declared.view.View.{View}
-use Rattle.pocket_desk.specs.History.{works, BeginsWith, HasExactly}
+use Rattle.pocket_desk.specs.History.{works, BeginsWith, HasExactly, HasNoneOf}
 use Rattle.pocket_desk.specs.View.{at_stage, seeing, entered, answered, merged_view}
-use Rattle.pocket_desk.specs.Lock.{PendingHolds}
+use Rattle.pocket_desk.specs.Lock.{PendingHolds, held}
 
 -- a seat's view and the slot in hand
 abbrev pub Mine : Type 0 → Type 0 → Type 0 → Type 0
@@ -26,6 +26,7 @@ module _ {M W R : Type 0} where
     pub opening_is : (o : M) → m.0.opened ≡ Some o → opening machine ≡ opening o
     pub history_is : history machine ≡ works log
     pub seen : BeginsWith log m.0.seen
+    pub late : HasNoneOf (held m.0) seen.0
     pub own : HasExactly m.0.number m.0.stride m.0.mine log
 
   abbrev pub LooksAtServing : {O : Type 0} → (M → O) → (M → List W) → Step (Option M) → Mine M W R → ℕ → Mine M W R → Type 0
@@ -40,7 +41,8 @@ module _ {M W R : Type 0} where
   abbrev pub Closes : Step (Option M) → Mine M W R → ℕ → Mine M W R → Type 0
   Closes st m found m' = (t : ℕ) → m.0.stage ≡ Serving t → m' ≡ (at_stage m.0 (Closing t), rest m.1)
 
-  -- what the two seats had seen are beginnings of one history, which has exactly the works of each
+  -- what the two seats had seen are beginnings of one history, which has exactly the works of each, all of them seen
   abbrev pub Merges : Step (Option M) → Mine M W R → ℕ → Mine M W R → Type 0
   Merges st m found m' = (m' ≡ (merged_view m.0, m.1))
-      × ((log : List (Entry W)) × BeginsWith log m.0.seen × HasExactly m.0.number m.0.stride m.0.mine log × PendingHolds log m.0.pending)
+      × ((log : List (Entry W)) × (rest : List (Entry W)) × (log ≡ m.0.seen ++ rest) × HasNoneOf (held m.0) rest
+      × HasExactly m.0.number m.0.stride m.0.mine log × PendingHolds log (held m.0) m.0.pending)

@@ -1,7 +1,7 @@
 // The desk and its passes.
 ghost use Rattle.std.specs.Prelude.{◌≡◌, [], ◌∷◌, Some, IfOk, IfErr};
 ghost use Rattle.pocket_desk.specs.History.{works, BeginsWith};
-ghost use Rattle.pocket_desk.specs.Pass.{IsOf, KnowsOwnWorks, IsNew, IsCall, IsSplit, IsJoin};
+ghost use Rattle.pocket_desk.specs.Pass.{IsOf, KnowsOwnWorks, IsNew, IsWhole, IsCall, IsSplit, IsJoin};
 
 use crate::lock::{Close, Halves, LockRule, LockSeat, Merge, SERVING};
 use crate::machine::Machine;
@@ -35,9 +35,10 @@ impl<M: Machine> Model for Desk<M> {
 
 /// What one caller has seen of a desk's history. It has no bytes, and may go to another thread.
 ///
-/// Contracts see it as the name of its `desk`, its own `number`, the entries that it has `seen`, the
-/// works that are `mine`, which came by it and were entered, and all its `calls`. A desk is closed with
-/// a pass, so keep the last one.
+/// Contracts see it as the name of its `desk`, its own `number`, the numbers that it `held`, which are those
+/// of passes that were joined to it as well, the entries that it has `seen`, the works that are `mine`, which
+/// came by it and were entered, those that are `ours`, which came by passes that were joined to it as well,
+/// and all its `calls`. A desk is closed with a pass, so keep the last one.
 #[derive(Drop)]
 pub struct Pass<M: Machine> {
     seat: LockSeat<M>,
@@ -138,6 +139,8 @@ impl<M: Machine> Desk<M> {
         requires { IsOf self pass }
         ensures opening { M.opening result ≡ M.opening self.opened }
         ensures history { BeginsWith (M.history result) (works pass.seen) }
+        // Where each other pass was joined to it again, there is nothing else in the history.
+        ensures whole { IsWhole pass → M.history result ≡ pass.ours }
     {
         let Desk { table } = self;
         let Pass { mut seat } = pass;

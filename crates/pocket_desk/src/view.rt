@@ -14,6 +14,12 @@ pub struct Call<W, R> {
     pub reply: R,
 }
 
+/// A number, and every `stride`th one after it.
+pub struct Numbers {
+    pub first: u64,
+    pub stride: u64,
+}
+
 /// Where a seat stands in the queue.
 pub enum Stage {
     Idle,
@@ -27,10 +33,11 @@ pub enum Stage {
     Joined,
 }
 
-/// What a join brought and is still to be merged: the other's number, what it had seen, and its works.
+/// What a join brought and is still to be merged: the other's number, all numbers that it held, what it had
+/// seen, and its works.
 pub enum Pending<W> {
     Nothing,
-    Other(u64, LinkedList<Entry<W>>, LinkedList<W>),
+    Other(u64, LinkedList<Numbers>, LinkedList<Entry<W>>, LinkedList<W>),
 }
 
 /// What a seat knows.
@@ -41,6 +48,8 @@ pub struct View<M, W, R> {
     pub number: u64,
     /// The numbers that are its own to give away are its number and every `stride`th one after it.
     pub stride: u64,
+    /// The numbers of the seats that were joined to it.
+    pub joined: LinkedList<Numbers>,
     pub seen: LinkedList<Entry<W>>,
     pub mine: LinkedList<W>,
     pub calls: LinkedList<Call<W, R>>,

@@ -1,7 +1,7 @@
 use Rattle.std.proofs.Common.{rules, ap, ◌∙◌, ◌≡◌, Some}
 use Rattle.pocket_desk.specs.declared.view.Stage.TheVariants.{Serving, Closing}
 use Rattle.pocket_desk.proofs.Steps.{closes}
-use Rattle.pocket_desk.proofs.Passes.{empty_at_end, machine_at_turn}
+use Rattle.pocket_desk.proofs.Passes.{empty_at_end, machine_at_turn, whole_at_turn}
 use Rattle.pocket_desk.proofs.desk.Desk.close.Goals as goal
 
 pub load-requires : goal.load-requires
@@ -20,3 +20,8 @@ returns-clause-history g c =
     let key = c.self.inside.table.shared.key.value in
     let is : c.pass.inside.seat.me.0.opened ≡ Some key = search rules in
     rw (← c.pass.view_is) (machine_at_turn g.M.Machine.opening g.M.Machine.history key _ _ c.pass.inside.seat.me.0 c.take_ticket-last.result c.take_machine-machine.result c.take_ticket-last.ensures.1 c.await_turn.ensures.turn c.take_machine-machine.ensures.machine is).1
+
+pub returns-clause-whole : goal.returns-clause-whole
+returns-clause-whole g c =
+    let key = c.self.inside.table.shared.key.value in
+    rw (← c.pass.view_is) (whole_at_turn g.M.Machine.opening g.M.Machine.history key _ _ c.pass.inside.seat.me.0 c.take_ticket-last.result c.take_machine-machine.result c.take_ticket-last.ensures.1 c.await_turn.ensures.turn c.take_machine-machine.ensures.machine)
