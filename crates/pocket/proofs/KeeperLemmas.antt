@@ -141,10 +141,10 @@ on_session end P is done = subst (λ e. OnSession e P) (sym is) done
 -- what workers did is told with equal names
 pub worked_so : {H : Type 0} (view : H → HandView) (one two : MachineState) (history journal : List Work) (olds news left : List H)
     (ends workers : List WorkerEnd) → one ≡ two → journal ≡ history → left ≡ news → workers ≡ ends
-    → AreWorked (OfficeFits one) (StateEnters one) Shared history (map view olds) (map view news) ends
-    → AreWorked (OfficeFits two) (StateEnters two) Shared journal (map view olds) (map view left) workers
+    → AreWorked (OfficeFits one) (StateEnters one) Shared history (map view olds) (map view news) ends history
+    → AreWorked (OfficeFits two) (StateEnters two) Shared journal (map view olds) (map view left) workers journal
 worked_so view one two history journal olds news left ends workers same journal_is left_is workers_are worked =
-    subst (λ o. AreWorked (OfficeFits o) (StateEnters o) Shared journal (map view olds) (map view left) workers) same
-    (subst (λ h. AreWorked (OfficeFits one) (StateEnters one) Shared h (map view olds) (map view left) workers) (sym journal_is)
-    (subst (λ l. AreWorked (OfficeFits one) (StateEnters one) Shared history (map view olds) (map view l) workers) (sym left_is)
-    (subst (λ e. AreWorked (OfficeFits one) (StateEnters one) Shared history (map view olds) (map view news) e) (sym workers_are) worked)))
+    subst (λ o. AreWorked (OfficeFits o) (StateEnters o) Shared journal (map view olds) (map view left) workers journal) same
+    (subst (λ h. AreWorked (OfficeFits one) (StateEnters one) Shared h (map view olds) (map view left) workers h) (sym journal_is)
+    (subst (λ l. AreWorked (OfficeFits one) (StateEnters one) Shared history (map view olds) (map view l) workers history) (sym left_is)
+    (subst (λ e. AreWorked (OfficeFits one) (StateEnters one) Shared history (map view olds) (map view news) e history) (sym workers_are) worked)))

@@ -116,7 +116,8 @@ where
     ensures served { OnSession result.0.started (λ _. AreAccepted state.opening result.1.journal
         × AreRowsOf (K.rows result.1.keeper) (after state.opening result.1.journal)
         × AreWorked (OfficeFits state.opening) (StateEnters state.opening) Shared result.1.journal
-        (map (hand_view A.told C.answers D.answers) hands.items) (map (hand_view A.told C.answers D.answers) result.1.hands.items) result.0.workers) }
+        (map (hand_view A.told C.answers D.answers) hands.items) (map (hand_view A.told C.answers D.answers) result.1.hands.items) result.0.workers
+        result.1.journal) }
     ensures unserved { OnUnopened result.0.started ((result.0.workers ≡ []) × (result.1.journal ≡ []) × (result.1.hands.items ≡ hands.items)
         × (result.1.keeper ≡ keeper)) }
     ensures untold { StaysUntold (K.rows keeper) (K.rows result.1.keeper) }
@@ -165,13 +166,15 @@ where
 
     // From the state that the rows told at first stand for there is one history: each command of it is one that the machine enters after
     // those before it, and the rows told at the end are those of the state after all of them. Each worker served the connections of its
-    // hand, which are sessions over this history, until none was left or none could be accepted.
+    // hand, which are sessions over this history, until none was left or none could be accepted. What they entered by the calls of these
+    // connections, interleaved, is the whole history: each command once, and nothing that nobody sent.
     ensures served { OnSession result.0.started (λ _. (opening : MachineState)
         × IsOpeningFor (IsServe (map string_bytes words.now)) (K.rows keeper) (K.rows result.1.keeper) opening
         × AreAccepted opening result.1.journal
         × AreRowsOf (K.rows result.1.keeper) (after opening result.1.journal)
         × AreWorked (OfficeFits opening) (StateEnters opening) Shared result.1.journal
-        (map (hand_view A.told C.answers D.answers) hands.items) (map (hand_view A.told C.answers D.answers) result.1.hands.items) result.0.workers) }
+        (map (hand_view A.told C.answers D.answers) hands.items) (map (hand_view A.told C.answers D.answers) result.1.hands.items) result.0.workers
+        result.1.journal) }
 
     // Where nothing was served, nothing is accepted, the hands are as before, and so are the told rows.
     ensures unserved { OnUnopened result.0.started ((result.0.workers ≡ []) × (result.1.journal ≡ []) × (result.1.hands.items ≡ hands.items)) }

@@ -1,5 +1,5 @@
 -- A call on a desk, as a call of a service.
-use Rattle.std.proofs.Common.{◌≡◌, ◌⊎◌, inl, inr, ℕ, ◌+◌, ◌≤◌, Bool, List, [], ◌∷◌, ◌++◌, Some, length, take, refl, sym, ◌∙◌, ap, subst, arith, append-nil, length-append}
+use Rattle.std.proofs.Common.{◌≡◌, ◌⊎◌, inl, inr, ◌+◌, ◌≤◌, Bool, List, [], ◌∷◌, ◌++◌, length, take, refl, sym, ◌∙◌, ap, subst, arith, append-nil, length-append}
 use Rattle.std.specs.Prelude.{slice_get}
 use Rattle.std.proofs.lemmas.List.{length-map, map-append, take-map}
 use Rattle.pocket_api.specs.declared.reply.Reply.{Reply}
@@ -69,11 +69,11 @@ module _ {M : Type 0} (fits : List Work → Work → Reply → Bool → Type 0) 
 
   -- the works that it entered, and the pass's own works with them
   abbrev Grown : Type 0
-  Grown = (entered : List Work) × AreEntered enters (works q.seen) (made ∷ []) entered × (q.mine ≡ p.mine ++ entered)
+  Grown = (entered : List Work) × AreEntered enters (works q.seen) (made ∷ []) entered × (q.mine ≡ p.mine ++ entered) × (q.ours ≡ p.ours ++ entered)
 
   grown : Either → Grown
-  grown (inl (e, entered)) = (work ∷ [], inl ([], subst (λ l. enters l work reply) (sym same_front) e, refl, refl), entered.mine)
-  grown (inr (never, still)) = ([], inr (λ e. never (subst (λ l. enters l work reply) same_front e), refl), still.mine ∙ sym (append-nil p.mine))
+  grown (inl (e, entered)) = (work ∷ [], inl ([], subst (λ l. enters l work reply) (sym same_front) e, refl, refl), entered.mine, entered.ours)
+  grown (inr (never, still)) = ([], inr (λ e. never (subst (λ l. enters l work reply) same_front e), refl), still.mine ∙ sym (append-nil p.mine), still.ours ∙ sym (append-nil p.ours))
 
   -- and what it does to the pass
   pub desk_called : HasCalled enters p (made ∷ []) q
@@ -81,10 +81,12 @@ module _ {M : Type 0} (fits : List Work → Work → Reply → Bool → Type 0) 
       let own = grown is.enters_once in
       record {
         number = is.number;
+        held = is.held;
         calls_are = is.calls;
         seen = is.seen_grows;
         positions = (is.not_before, within is.enters_once, tt);
         entered = own.0;
         are_entered = own.1;
         mine = own.2;
+        ours = own.3;
       }

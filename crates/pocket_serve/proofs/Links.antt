@@ -1,5 +1,5 @@
 -- Links that are served one after the other.
-use Rattle.std.proofs.Common.{◌≡◌, ◌⊎◌, inl, ℕ, ◌+◌, ◌≤◌, suc, List, [], ◌∷◌, ◌++◌, Option, Some, None, length, map, refl, sym, ◌∙◌, ap, subst, arith, append_assoc, append-nil, length-append}
+use Rattle.std.proofs.Common.{◌≡◌, ◌⊎◌, ℕ, ◌+◌, ◌≤◌, List, [], ◌∷◌, ◌++◌, Option, Some, None, map, refl, sym, ◌∙◌, ap, subst, arith, append_assoc, append-nil, length-append}
 use Rattle.std.specs.Io.KnownBytes.{Consumes, IsAtEnd}
 use Rattle.std.proofs.Math.Nat.{le_refl, le_trans}
 use Rattle.pocket_types.specs.Causes.{Rose}
@@ -12,7 +12,7 @@ use Rattle.pocket_api.specs.declared.work.Work.{Work}
 use Rattle.pocket_desk.specs.History.{BeginsWith}
 use Rattle.pocket_desk.specs.declared.view.Call.{Call}
 use Rattle.pocket_serve.specs.Accepting.{AcceptorView, Finished, GivesFirst, IsFresh, IsGiven, finished_link, with_finished}
-use Rattle.pocket_serve.specs.Drawing.{AreDrawn, IsDrawn, draws_of}
+use Rattle.pocket_serve.specs.Drawing.{IsDrawn, draws_of}
 use Rattle.pocket_serve.specs.Hands.{AddsFinished, AreDrawsOf, AreFinishedAs, AreSessions, GivesInputs, HandView, HasServed, IsFinishedAs, Served, calls_of}
 use Rattle.pocket_serve.specs.Sending.{Takes}
 use Rattle.pocket_serve.specs.Sessions.{IsSession}

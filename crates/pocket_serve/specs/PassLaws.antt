@@ -1,5 +1,5 @@
 -- Calls of a pass go on from one another.
-use Rattle.std.specs.Prelude.{◌≡◌, ◌≤◌, ◌⊎◌, ℕ, ◌+◌, List, [], ◌∷◌, ◌++◌, length, map, take}
+use Rattle.std.specs.Prelude.{◌≡◌, ◌≤◌, ℕ, ◌+◌, List, [], ◌∷◌, ◌++◌, length}
 use Rattle.std.proofs.Common.{refl, ap, sym, subst, ◌∙◌, inl, inr, length-append}
 use Rattle.std.proofs.Math.Nat.{le-add_right, le_trans}
 use Rattle.std.proofs.lemmas.List.{length-map, map-append, take-append-le}
@@ -15,7 +15,7 @@ use Rattle.pocket_serve.specs.Passes.{HasCalled}
 
 -- ---- positions
 
-stand_wider : (low lower high higher : ℕ) (calls : List (Call Work Reply)) → lower ≤ low → high ≤ higher → StandBetween low high calls
+pub stand_wider : (low lower high higher : ℕ) (calls : List (Call Work Reply)) → lower ≤ low → high ≤ higher → StandBetween low high calls
     → StandBetween lower higher calls
 stand_wider low lower high higher [] below above stand = tt
 stand_wider low lower high higher (call ∷ calls) below above (after, before, stand) =
@@ -66,12 +66,14 @@ module _ (enters : List Work → Work → Reply → Type 0) where
     pub called_none : (p : PassView M Work Reply) → HasCalled enters p [] p
     called_none p = record {
       number = refl;
+      held = refl;
       calls_are = adds_none p.calls;
       seen = ([], adds_none p.seen);
       positions = tt;
       entered = [];
       are_entered = refl;
       mine = adds_none p.mine;
+      ours = adds_none p.ours;
     }
 
     -- what was entered among the works that a pass had seen is so among those that it has seen now
@@ -87,6 +89,7 @@ module _ (enters : List Work → Work → Reply → Type 0) where
         → HasCalled enters p (calls ++ more) r
     called_more p q r calls more first second = record {
       number = second.number ∙ first.number;
+      held = second.held ∙ first.held;
       calls_are = adds_more p.calls q.calls r.calls calls more first.calls_are second.calls_are;
       seen = (first.seen.0 ++ second.seen.0, adds_more p.seen q.seen r.seen first.seen.0 second.seen.0 first.seen.1 second.seen.1);
       positions =
@@ -98,6 +101,7 @@ module _ (enters : List Work → Work → Reply → Type 0) where
           entered_more (works r.seen) calls more first.entered second.entered
           (entered_now p q r calls first.entered second.seen first.positions first.are_entered) second.are_entered;
       mine = adds_more p.mine q.mine r.mine first.entered second.entered first.mine second.mine;
+      ours = adds_more p.ours q.ours r.ours first.entered second.entered first.ours second.ours;
     }
 
 -- the same where what enters is the matter of a desk, which stays the same

@@ -5,6 +5,7 @@ ghost use Rattle.pocket_desk.specs.History.{works};
 ghost use Rattle.pocket_desk.specs.Pass.{IsOf};
 ghost use Rattle.pocket_serve.specs.Hands.{hand_view};
 ghost use Rattle.pocket_serve.specs.Owners.{Shared, SharedFits};
+ghost use Rattle.pocket_serve.specs.Passes.{StillHolds};
 ghost use Rattle.pocket_serve.specs.Workers.{AreWorked, IsWorked};
 
 use crate::acceptor::Acceptor;
@@ -25,7 +26,7 @@ pub struct ServedMachine<M, A, C, D> {
     pub ends: Vec<WorkerEnd>,
 }
 
-/// Serves the links of a hand by a pass that has seen nothing, and gives the hand back.
+/// Serves the links of a hand by a new pass, and gives the hand back. The pass's works are those entered for these links.
 fn serve_by<
     M: Machine<Work = Work, Reply = Reply>,
     A: Acceptor,
@@ -40,10 +41,11 @@ fn serve_by<
     hand: Hand<A, C, D>,
 ) -> (Pass<M>, Hand<A, C, D>, WorkerEnd)
     requires desk { IsOf worker.desk.now pass }
-    requires new { pass.seen ≡ [] }
+    requires new { (pass.seen ≡ []) × (pass.ours ≡ []) }
     ensures desk { IsOf worker.entry.desk.now result.0 }
+    ensures held { result.0.held ≡ pass.held }
     ensures worked { IsWorked (SharedFits (M.fits (M.opening worker.entry.desk.now.opened))) (M.enters (M.opening worker.entry.desk.now.opened)) Shared (works result.0.seen)
-        (hand_view A.told C.answers D.answers hand) (hand_view A.told C.answers D.answers result.1) result.2 }
+        (hand_view A.told C.answers D.answers hand) (hand_view A.told C.answers D.answers result.1) result.2 result.0.ours }
 {
     let mut hand = hand;
     let (pass, end) = serve_hand(
@@ -79,12 +81,14 @@ fn serve_all<
 where
     A::Link: Send,
     requires desk { IsOf desk.now pass }
-    requires new { pass.seen ≡ [] }
+    requires new { (pass.seen ≡ []) × (pass.ours ≡ []) }
     requires none { ends.items ≡ [] }
     requires room { vec_len hands ≤ vec_capacity ends }
     ensures desk { IsOf desk.now result.0 }
+    ensures held { StillHolds pass result.0 }
     ensures worked { AreWorked (SharedFits (M.fits (M.opening desk.now.opened))) (M.enters (M.opening desk.now.opened)) Shared (works result.0.seen)
-        (map (hand_view A.told C.answers D.answers) hands.items) (map (hand_view A.told C.answers D.answers) result.1.items) result.2.items }
+        (map (hand_view A.told C.answers D.answers) hands.items) (map (hand_view A.told C.answers D.answers) result.1.items) result.2.items
+        result.0.ours }
     ensures hands { (vec_len result.1 ≡ vec_len hands) × (vec_capacity result.1 ≡ vec_capacity hands) }
     ensures ends { (vec_len result.2 ≡ vec_len hands) × (vec_capacity result.2 ≡ vec_capacity ends) }
 {
@@ -98,10 +102,12 @@ where
         rt,
         || -> (Pass<M>, Hand<A, C, D>, WorkerEnd)
             requires { IsSync R.row × IsSend M.row × IsSend A.row × IsSend A.Link.row × IsSend C.row × IsSend D.row × IsSync G.row
-                × IsOf desk.now one × (one.seen ≡ []) }
+                × IsOf desk.now one × (one.seen ≡ []) × (one.ours ≡ []) }
             ensures { IsOf desk.entry.now result.0
+                × (result.0.held ≡ one.held)
                 × IsWorked (SharedFits (M.fits (M.opening desk.entry.now.opened))) (M.enters (M.opening desk.entry.now.opened)) Shared (works result.0.seen)
-                (hand_view A.told C.answers D.answers hand) (hand_view A.told C.answers D.answers result.1) result.2 }
+                (hand_view A.told C.answers D.answers hand) (hand_view A.told C.answers D.answers result.1) result.2
+                result.0.ours }
         {
             serve_by(
                 Worker {
@@ -117,10 +123,12 @@ where
         },
         || -> (Pass<M>, Vec<Hand<A, C, D>>, Vec<WorkerEnd>)
             requires { IsSync R.row × IsSend M.row × IsSend A.row × IsSend A.Link.row × IsSend C.row × IsSend D.row × IsSync G.row
-                × IsOf desk.now two × (two.seen ≡ []) × (ends.items ≡ []) × (vec_len hands ≤ vec_capacity ends) }
+                × IsOf desk.now two × (two.seen ≡ []) × (two.ours ≡ []) × (ends.items ≡ []) × (vec_len hands ≤ vec_capacity ends) }
             ensures { IsOf desk.entry.now result.0
+                × StillHolds two result.0
                 × AreWorked (SharedFits (M.fits (M.opening desk.entry.now.opened))) (M.enters (M.opening desk.entry.now.opened)) Shared (works result.0.seen)
                 (map (hand_view A.told C.answers D.answers) hands.items) (map (hand_view A.told C.answers D.answers) result.1.items) result.2.items
+                result.0.ours
                 × (vec_len result.1 ≡ vec_len hands) × (vec_capacity result.1 ≡ vec_capacity hands)
                 × (vec_len result.2 ≡ vec_len hands) × (vec_capacity result.2 ≡ vec_capacity ends) }
         { serve_all(rt, alloc, desk, two, hands, ends, gate) },
@@ -153,10 +161,12 @@ pub fn serve_machine<
 where
     A::Link: Send,
     requires new { M.history machine ≡ [] }
-    // Each worker served some links, which are sessions over the history of the machine.
+    // Each worker served some links, which are sessions over the history of the machine. What they entered by the calls of
+    // these links, interleaved, is the whole history: nobody else entered a work, and none was entered twice.
     ensures worked { IfOk result (λ served. AreWorked (SharedFits (M.fits (M.opening machine))) (M.enters (M.opening machine)) Shared
         (M.history served.machine) (map (hand_view A.told C.answers D.answers) hands.items)
-        (map (hand_view A.told C.answers D.answers) served.hands.items) served.ends.items) }
+        (map (hand_view A.told C.answers D.answers) served.hands.items) served.ends.items
+        (M.history served.machine)) }
     ensures opening { IfOk result (λ served. M.opening served.machine ≡ M.opening machine) }
     ensures refused { IfErr result (λ e. (e.1 ≡ machine) × (e.2.items ≡ hands.items)) }
 {

@@ -1,4 +1,4 @@
-use Rattle.std.proofs.Common.{◌≡◌, ℕ, List, length}
+use Rattle.std.proofs.Common.{◌≡◌, List, length}
 use Rattle.pocket_desk.specs.History.{works}
 use Rattle.pocket_desk.specs.Pass.{IsOf}
 use Rattle.pocket_serve.specs.Hands.{AreSessions, HasServed, Served, calls_of, hand_view}
