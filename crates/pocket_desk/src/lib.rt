@@ -14,6 +14,8 @@
 //!   its own, and a number that no seat has had has no entry.
 //! - No two seats have a number in common, now or by later splits: a seat with a number n and a stride s owns n, n + s,
 //!   n + 2s and so on, and a split leaves it every second of them.
+//! - A seat that others were joined to holds their numbers as well, and has seen every entry of the numbers that it
+//!   holds. So one that holds all numbers, since every other was joined to it again, has seen the whole history.
 //!
 //! A step changes one word and the view of the seat that steps; it may also take the slot or give it back. Only the
 //! seat whose ticket is served touches `length`, `serving` and the slot, so one lemma (`served_steps` in
@@ -29,4 +31,4 @@ mod view;
 
 pub use desk::{Desk, Pass};
 pub use machine::Machine;
-pub use view::{Call, Entry};
+pub use view::{Call, Entry, Numbers};

@@ -12,8 +12,9 @@
 //! the service of a desk, which calls the gate, by which tests hold a call, and then the desk; `specs/Passes` says what
 //! that does to a pass. An `Acceptor` gives connections, and promises a place for each one that it gave (`has_place`),
 //! so that taking it back needs no memory and can't be refused. `hand.rt` serves the links of one worker
-//! (`specs/Hands`), and `workers.rt` all hands over one machine (`specs/Workers`), which it takes and gives back by
-//! value: of what a joined thread wrote through a `&mut` nothing is known.
+//! (`specs/Hands`), and `workers.rt` all hands over one machine (`specs/Workers`), whose history is what the workers
+//! entered. It takes the hands and gives them back by value: of what a joined thread wrote through a `&mut` nothing is
+//! known.
 #![tactic(auto)]
 
 mod acceptor;
