@@ -18,7 +18,6 @@ use Rattle.pocket_ops.specs.Fields.{field_at}
 use Rattle.pocket_meaning.specs.Related.{held, holders}
 use Rattle.pocket_plan.specs.Cutting.{open_collection, open_rec}
 use Rattle.pocket_gate.specs.Seen.{seen_world}
-use Rattle.pocket_expand.specs.Names.{names_of}
 use Rattle.pocket_expand.specs.declared.names.Branch.{Branch, Branch-F, fold-Branch}
 use Rattle.pocket_expand.specs.declared.names.Lead.{Lead}
 use Rattle.pocket_expand.specs.declared.names.Lead.TheVariants as lead
@@ -109,7 +108,3 @@ shown_rec who c r = if is_admin who then r else open_rec c r
 -- admits the record itself isn't asked.
 abbrev pub expansion_by : World → Ask → Collection → Rec → Names → Jv
 expansion_by w ask c r names = expanded_jv (seen_world w ask) names.branches (shown_collection ask.caller c) (shown_rec ask.caller c r)
-
--- the same by a text; without one it is the record alone
-abbrev pub expansion : World → Ask → Collection → Rec → Option (List ℕ) → Jv
-expansion w ask c r text = expansion_by w ask c r (names_of text)

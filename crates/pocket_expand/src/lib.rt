@@ -17,4 +17,4 @@ mod related;
 mod walk;
 
 pub use names::{Names, names_of};
-pub use walk::{expand, expand_names};
+pub use walk::expand_names;

@@ -1,22 +1,21 @@
 // Records with their expansions.
-ghost use Rattle.std.specs.Prelude.{◌≡◌, ◌≤◌, IfOk, IfSome, IsSome, Some, filter_map, map, option_map};
+ghost use Rattle.std.specs.Prelude.{◌≡◌, ◌≤◌, IfOk, filter_map, map, option_map};
 ghost use Rattle.pocket_types.specs.Callers.{is_admin};
 ghost use Rattle.pocket_types.specs.Maps.{map_jv};
 ghost use Rattle.pocket_types.specs.Within.{collections_of};
 ghost use Rattle.pocket_ops.specs.Trees.{shown_members};
-ghost use Rattle.pocket_resolve.specs.Fields as fields;
 ghost use Rattle.pocket_gate.specs.Built.{rules_of};
 ghost use Rattle.pocket_gate.specs.Seen.{seen_world};
-ghost use Rattle.pocket_expand.specs.Expansion.{all_under, expanded_jv, expands, expansion, expansion_by, in_order, member_jv, put_expand, related_jv, shown_collection, shown_rec, with_found};
+ghost use Rattle.pocket_expand.specs.Expansion.{all_under, expanded_jv, expands, expansion_by, in_order, member_jv, put_expand, related_jv, shown_collection, shown_rec, with_found};
 ghost use Rattle.pocket_expand.specs.Met.{member_seen};
 
-use crate::names::{Branch, Names, names_of};
+use crate::names::{Branch, Names};
 use crate::related::related_by;
-use pocket_gate::{Rules, collection_named};
+use pocket_gate::Rules;
 use pocket_meaning::Member;
 use pocket_ops::{map_jv, put_member, shown_members};
 use pocket_tables::Tables;
-use pocket_types::{Ask, Collection, Jv, Name, Rec, Seq, Steps, Text};
+use pocket_types::{Ask, Collection, Jv, Rec, Seq, Steps, Text};
 use std::alloc::{AllocError, Global};
 use std::collections::BTreeMap;
 use std::sync::ledger::Ledger;
@@ -222,29 +221,4 @@ pub fn expand_names<L: Ledger>(
 {
     let branches = names.branches.as_slice();
     rec_tree(branches, alloc, tables, rules, ask, collection, rec, steps)
-}
-
-/// The same of a collection's name and an `expand` text, for one record. Where there are several, their names are read once, by
-/// `names_of`.
-pub fn expand<L: Ledger>(
-    alloc: Global,
-    tables: &Tables,
-    rules: &Rules,
-    ask: &Ask,
-    collection: &Name,
-    rec: &Rec,
-    names: &Text,
-    steps: &mut Steps<L>,
-) -> Result<Jv, AllocError>
-    requires rules { rules.now ≡ rules_of (collections_of tables.now.world) }
-    requires there { IsSome (fields.collection_named (collections_of tables.now.world) collection.now) }
-    ensures tree { IfSome (fields.collection_named (collections_of tables.now.world) collection.now)
-        (λ c. IfOk result (λ tree. tree ≡ expansion tables.now.world ask.now c rec.now (Some names.now))) }
-    ensures steps { steps.old ≤ steps.new }
-{
-    let names = names_of(alloc, Some(names))?;
-    match collection_named(tables.collections(), collection) {
-        Some(collection) => expand_names(alloc, tables, rules, ask, collection, rec, &names, steps),
-        None => unreachable!(),
-    }
 }
