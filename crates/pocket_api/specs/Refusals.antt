@@ -1,5 +1,5 @@
 -- Refusals: the status, the message and the data of each cause.
-use Rattle.std.specs.Prelude.{◌≡◌, ℕ, ◌==◌, pos, List, [], ◌∷◌, ◌++◌, fold, codes, decimal, if◌then◌else◌}
+use Rattle.std.specs.Prelude.{◌≡◌, ℕ, ◌==◌, pos, List, [], ◌∷◌, ◌++◌, fold, codes, decimal, Option, Some, None, unwrap_or, if◌then◌else◌}
 use Rattle.pocket_types.specs.Json.{printed}
 use Rattle.pocket_types.specs.Maps.{map_jv, put}
 use Rattle.pocket_types.specs.declared.faults.FieldFault.{FieldFault}
@@ -160,9 +160,17 @@ item_refused n r = record { why = why.Item n; status = 400; detail = item_jv n r
 
 -- ---- replies
 
--- what a reply that refuses carries: for want of memory the fixed text, which is the same
+-- the body that a reply with this status carries, where its text is fixed
+abbrev pub fixed_body : ℕ → Option ReplyBody
+fixed_body status = if status == 500 then Some reply_body.NotKept else if status == 507 then Some reply_body.NoMemory else None
+
+-- what a reply with this status carries of a tree: its text, or the fixed text, which is the same
+abbrev pub body_of : ℕ → Jv → ReplyBody
+body_of status tree = unwrap_or (fixed_body status) (reply_body.Made (printed tree))
+
+-- what a reply that refuses carries
 abbrev pub refusal_body : ℕ → Jv → ReplyBody
-refusal_body status detail = if status == 507 then reply_body.NoMemory else reply_body.Made (printed (refusal_jv status detail))
+refusal_body status detail = body_of status (refusal_jv status detail)
 
 -- the reply refuses, at a place in the history
 pub record IsRefused (r : Refusal) (place : ℕ) (reply : Reply) : Type 0 where

@@ -1,9 +1,8 @@
 // The bytes of replies.
-ghost use Rattle.std.specs.Prelude.{◌≡◌, ◌≢◌, ◌++◌, IfOk, MatchOption};
+ghost use Rattle.std.specs.Prelude.{◌≡◌, ◌++◌, IfOk, MatchOption, false, true};
 ghost use Rattle.std.specs.String.{string_bytes};
 ghost use Rattle.pocket_wire.specs.Phrases.{status_line};
-ghost use Rattle.pocket_api.specs.Replies.{body_headers, body_text, close_header, no_memory_bytes, reply_bytes};
-ghost use Rattle.pocket_api.specs.declared.reply.ReplyBody.TheVariants.{NoMemory};
+ghost use Rattle.pocket_api.specs.Replies.{body_headers, body_text, close_header, is_fixed, no_memory_bytes, not_kept_bytes, reply_bytes};
 
 use crate::reply::{Reply, ReplyBody};
 use pocket_types::Seq;
@@ -18,7 +17,17 @@ pub const REPLY_507: &[u8] =
 pub const REPLY_507_CLOSE: &[u8] =
     b"HTTP/1.1 507 Insufficient Storage\r\nContent-Type: application/json\r\nContent-Length: 51\r\nConnection: close\r\n\r\n{\"data\":{},\"message\":\"Out of memory.\",\"status\":507}";
 
+/// The reply where the store failed, which takes no memory.
+const REPLY_500: &[u8] =
+    b"HTTP/1.1 500 Internal Server Error\r\nContent-Type: application/json\r\nContent-Length: 52\r\n\r\n{\"data\":{},\"message\":\"Storage failed.\",\"status\":500}";
+
+/// The same as a connection's last reply.
+const REPLY_500_CLOSE: &[u8] =
+    b"HTTP/1.1 500 Internal Server Error\r\nContent-Type: application/json\r\nContent-Length: 52\r\nConnection: close\r\n\r\n{\"data\":{},\"message\":\"Storage failed.\",\"status\":500}";
+
 const NO_MEMORY: &str = "{\"data\":{},\"message\":\"Out of memory.\",\"status\":507}";
+
+const NOT_KEPT: &str = "{\"data\":{},\"message\":\"Storage failed.\",\"status\":500}";
 
 /// The fixed reply for want of memory; with `close` it says that the connection ends with it.
 pub fn no_memory_reply(close: bool) -> &'static [u8]
@@ -27,22 +36,32 @@ pub fn no_memory_reply(close: bool) -> &'static [u8]
     if close { REPLY_507_CLOSE } else { REPLY_507 }
 }
 
-/// The fixed bytes of a reply that says that there is no memory: the same that `reply_bytes` makes.
+/// The fixed reply where the store failed.
+fn not_kept_reply(close: bool) -> &'static [u8]
+    ensures { result.now ≡ not_kept_bytes close }
+{
+    if close { REPLY_500_CLOSE } else { REPLY_500 }
+}
+
+/// The bytes of a reply whose text is fixed, for want of memory or where the store failed: the same that `reply_bytes` makes, without
+/// memory.
 pub fn fixed_bytes(reply: &Reply, close: bool) -> Option<&'static [u8]>
-    ensures { MatchOption result (reply.now.body ≢ NoMemory) (λ bytes. (reply.now.body ≡ NoMemory) × (bytes.now ≡ reply_bytes reply.now close)) }
+    ensures { MatchOption result (is_fixed reply.now.body ≡ false) (λ bytes. (is_fixed reply.now.body ≡ true) × (bytes.now ≡ reply_bytes reply.now close)) }
 {
     match reply.body {
         ReplyBody::NoMemory => Some(no_memory_reply(close)),
+        ReplyBody::NotKept => Some(not_kept_reply(close)),
         ReplyBody::Empty | ReplyBody::Made(_) => None,
     }
 }
 
-fn text_of(body: &ReplyBody) -> &str
+fn body_text(body: &ReplyBody) -> &str
     ensures { result.now ≡ body_text body.now }
 {
     match body {
         ReplyBody::Empty => "",
         ReplyBody::NoMemory => NO_MEMORY,
+        ReplyBody::NotKept => NOT_KEPT,
         ReplyBody::Made(text) => text.as_str(),
     }
 }
@@ -79,12 +98,12 @@ fn push_close_header(out: &mut String, close: bool) -> Result<(), AllocError>
     }
 }
 
-/// The bytes of a reply; with `close` it says that the connection ends with it. Those of a reply with the body `NoMemory` stand in
-/// `REPLY_507` and `REPLY_507_CLOSE` too, which take no memory.
+/// The bytes of a reply; with `close` it says that the connection ends with it. Those of a reply whose text is
+/// fixed take no memory by `fixed_bytes`.
 pub fn reply_bytes(alloc: Global, reply: &Reply, close: bool) -> Result<Seq<u8>, AllocError>
     ensures { IfOk result (λ bytes. bytes ≡ reply_bytes reply.now close) }
 {
-    let text = text_of(&reply.body);
+    let text = body_text(&reply.body);
     let status = reply.status;
     let mut out = first_line(alloc, status)?;
     push_body_headers(&mut out, status, text.len())?;

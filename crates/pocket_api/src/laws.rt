@@ -1,7 +1,7 @@
 // Laws of the definitions. Each is a function without a body.
 ghost use Rattle.pocket_types.specs.declared.names.Name.{Name};
 ghost use Rattle.pocket_types.specs.declared.requests.Action.TheVariants as action;
-ghost use Rattle.pocket_api.specs.Laws.{AreToldAlike, IsTextOfMemory};
+ghost use Rattle.pocket_api.specs.Laws.{AreToldAlike, IsTextOfKeeperFault, IsTextOfMemory};
 ghost use Rattle.pocket_api.specs.declared.why.Why.TheVariants as why;
 
 /// A record that may not be seen, changed or deleted is answered like one that isn't there, in every byte.
@@ -11,7 +11,8 @@ pub fn a_false_rule_looks_like_absence()
     ensures delete { (c : Name) → AreToldAlike (why.RuleFalse c action.Delete) why.NoRecord }
 {}
 
-/// The fixed text for want of memory is that of a refusal for this cause.
-pub fn the_fixed_text_is_a_refusal()
-    ensures { IsTextOfMemory }
+/// The fixed texts, for want of memory and where the store failed, are those of refusals for these causes.
+pub fn fixed_texts_are_refusals()
+    ensures memory { IsTextOfMemory }
+    ensures store { IsTextOfKeeperFault }
 {}

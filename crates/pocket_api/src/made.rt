@@ -2,7 +2,8 @@
 ghost use Rattle.std.specs.Prelude.{◌≡◌, ◌≢◌, IfOk};
 ghost use Rattle.pocket_types.specs.Json.{printed};
 ghost use Rattle.pocket_wire.specs.Phrases.{IsReplyStatus};
-ghost use Rattle.pocket_api.specs.Refusals.{IsDone, IsNoMemory, IsRefused, IsShown, because, not_admin, refusal_body};
+ghost use Rattle.pocket_api.specs.Refusals.{IsDone, IsNoMemory, IsRefused, IsShown, because, fixed_body, not_admin, refusal_body};
+ghost use Rattle.pocket_api.specs.declared.why.Why.TheVariants as why;
 
 use crate::details::data_of;
 use crate::refusals::{refusal_jv, status_of};
@@ -12,7 +13,7 @@ use pocket_types::{Caller, Jv, Seq, Text};
 use std::alloc::{AllocError, Global};
 
 /// The compact text of a tree.
-fn text_of(alloc: Global, tree: Jv) -> Result<Text, AllocError>
+fn printed(alloc: Global, tree: Jv) -> Result<Text, AllocError>
     ensures { IfOk result (λ text. text ≡ printed tree) }
 {
     let text = tree.print(alloc);
@@ -20,16 +21,27 @@ fn text_of(alloc: Global, tree: Jv) -> Result<Text, AllocError>
     text
 }
 
+/// The body that a reply with this status carries, where its text is fixed.
+fn fixed_body(status: u16) -> Option<ReplyBody>
+    ensures { result ≡ fixed_body status }
+{
+    match status {
+        500 => Some(ReplyBody::NotKept),
+        507 => Some(ReplyBody::NoMemory),
+        _ => None,
+    }
+}
+
 /// What a reply that refuses carries.
 fn refusal_body(alloc: Global, status: u16, detail: Jv) -> Result<ReplyBody, AllocError>
     ensures { IfOk result (λ body. body ≡ refusal_body status detail) }
 {
-    if status == 507 {
+    if let Some(body) = fixed_body(status) {
         drop(detail);
-        return Ok(ReplyBody::NoMemory);
+        return Ok(body);
     }
     let tree = refusal_jv(alloc, status, detail)?;
-    Ok(ReplyBody::Made(text_of(alloc, tree)?))
+    Ok(ReplyBody::Made(printed(alloc, tree)?))
 }
 
 impl Reply {
@@ -66,6 +78,18 @@ impl Reply {
             body: ReplyBody::NoMemory,
             at,
             why: Why::Memory,
+        }
+    }
+
+    /// The reply that the store failed, which takes no memory.
+    pub fn not_kept(at: u64) -> Reply
+        ensures { IsRefused (because why.KeeperFault) at result }
+    {
+        Reply {
+            status: 500,
+            body: ReplyBody::NotKept,
+            at,
+            why: Why::KeeperFault,
         }
     }
 

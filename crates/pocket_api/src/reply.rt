@@ -1,6 +1,6 @@
 ghost use Rattle.std.specs.Prelude.{◌≡◌, ◌↔◌};
 ghost use Rattle.pocket_wire.specs.Phrases.{IsReplyStatus};
-ghost use Rattle.pocket_api.specs.declared.reply.ReplyBody.TheVariants.{Empty, NoMemory};
+ghost use Rattle.pocket_api.specs.declared.reply.ReplyBody.TheVariants.{Empty, NoMemory, NotKept};
 
 use crate::why::Why;
 use pocket_types::Text;
@@ -11,6 +11,8 @@ pub enum ReplyBody {
     Empty,
     /// The fixed text for want of memory.
     NoMemory,
+    /// The fixed text where the store failed.
+    NotKept,
     /// JSON.
     Made(Text),
 }
@@ -26,4 +28,5 @@ pub struct Reply {
     pub ghost has_phrase: { IsReplyStatus status },
     pub ghost no_content: { (status ≡ 204) ↔ (body ≡ Empty) },
     pub ghost no_memory: { (status ≡ 507) ↔ (body ≡ NoMemory) },
+    pub ghost not_kept: { (status ≡ 500) ↔ (body ≡ NotKept) },
 }

@@ -233,10 +233,9 @@ fn reply_of(alloc: Global, words: &str) -> Result<Reply, Trouble> {
     }
 }
 
-/// The text of a refusal for want of memory, by its tree.
-fn memory_text(alloc: Global) -> Result<Text, AllocError> {
-    let why = Why::Memory;
-    refusal_jv(alloc, status_of(&why), data_of(alloc, &why)?)?.print(alloc)
+/// The text of a refusal for this cause, by its tree.
+fn refusal_text(alloc: Global, why: &Why) -> Result<Text, AllocError> {
+    refusal_jv(alloc, status_of(why), data_of(alloc, why)?)?.print(alloc)
 }
 
 /// The status and the text of a reply.
@@ -244,8 +243,8 @@ fn told(alloc: Global, reply: &Reply) -> Result<String, AllocError> {
     match &reply.body {
         ReplyBody::Empty => format!(in alloc; "{}", reply.status),
         ReplyBody::Made(text) => format!(in alloc; "{} {}", reply.status, text.as_str()),
-        ReplyBody::NoMemory => {
-            let text = memory_text(alloc)?;
+        ReplyBody::NoMemory | ReplyBody::NotKept => {
+            let text = refusal_text(alloc, &reply.why)?;
             format!(in alloc; "{} {}", reply.status, text.as_str())
         }
     }
