@@ -1,11 +1,9 @@
 -- What was planned in parts is what is to be put.
-use Rattle.std.proofs.Common.{◌≡◌, ◌≢◌, ◌∙◌, ℕ, List, Option, Some, None, Result, Ok, Err, IfSome, refl, sym, ap, subst}
+use Rattle.std.proofs.Common.{◌≡◌, ◌∙◌, List, Option, Some, None, Result, Ok, Err, IfSome, refl, sym, ap, subst}
 use Rattle.std.specs.Prelude.{All, MatchResult}
 use Rattle.pocket_types.specs.Chains.{◌>>=◌}
 use Rattle.pocket_types.specs.Within.{collections_of}
 use Rattle.pocket_types.specs.declared.deltas.Delta.{Delta}
-use Rattle.pocket_types.specs.declared.ids.Id.{Id}
-use Rattle.pocket_types.specs.declared.json.Jv.{Jv}
 use Rattle.pocket_types.specs.declared.names.Name.{Name}
 use Rattle.pocket_types.specs.declared.records.Collection.{Collection}
 use Rattle.pocket_types.specs.declared.records.Rec.{Rec}
@@ -19,11 +17,10 @@ use Rattle.pocket_tables.specs.Worlds.{MayStand, collection_at, name_of, rec_at}
 use Rattle.pocket_gate.specs.Rules.{verdict}
 use Rattle.pocket_check.specs.Validity.{faults_of}
 use Rattle.pocket_change.specs.Answers.{Gives}
-use Rattle.pocket_change.specs.Changes.{allowed, created, creation, faultless, put_checked, puts, update, updated, within_limits, world_with}
+use Rattle.pocket_change.specs.Changes.{allowed, faultless, put_checked, puts, within_limits, world_with}
 use Rattle.pocket_change.specs.Limits.{passed_limit}
-use Rattle.pocket_change.specs.Plans.{Stands, admitted, admitted_put, checked}
+use Rattle.pocket_change.specs.Plans.{Stands, admitted, admitted_put, checked, judged, put_judged, put_planned}
 use Rattle.pocket_change.specs.declared.fault.ChangeFault.{ChangeFault}
-use Rattle.pocket_change.specs.declared.fault.ChangeFault.TheVariants as fault
 use Rattle.pocket_change.proofs.StandingLemmas.{found_again, name_same, sound_there}
 
 pub if_found : {A : Type 0} (o : Option A) (P : A → Type 0) → ((a : A) → o ≡ Some a → P a) → IfSome o P
@@ -46,6 +43,11 @@ admitted_is w ask c r = by (allowed (verdict (world_with w c r) ask action.Creat
     by : (first : Result (Unit {0}) ChangeFault) → (first >>= λ _. put_checked w c r) ≡ ((first >>= λ _. checked (world_with w c r) c r) >>= λ _. Ok r)
     by (Ok t) = checked_is w c r
     by (Err e) = refl
+
+pub judged_is : (w : World) (creator : Option Ask) (c : Collection) (r : Rec)
+    → put_judged w creator c r ≡ (judged (world_with w c r) creator c r >>= λ _. Ok r)
+judged_is w None c r = checked_is w c r
+judged_is w (Some ask) c r = admitted_is w ask c r
 
 -- ---- plans
 
@@ -78,36 +80,23 @@ told_put w name c r v judged d result h e = subst (λ x. IsTold judged x result)
 still_there : (w v : World) (name : Name) (c : Collection) → collections_of v ≡ collections_of w → collection_at w name ≡ Some c → collection_at v name ≡ Some c
 still_there w v name c same e = ap (λ (cs : List Collection). find_key name_of name cs) same ∙ e
 
-pub created_given : (w : World) (name : Name) (ask with_body : Ask) (body : Option Jv) (words : List ℕ) (r : Rec) (v : World) (judged : Result (Unit {0}) ChangeFault) (d : Delta)
-    (result : Result Delta ChangeFault) → IsJudged w name r v judged d result
-    → ((c : Collection) → collection_at w name ≡ Some c → created w ask c body words ≡ admitted_put w with_body c r)
-    → ((c : Collection) (s : Rec) → collection_at v name ≡ Some c → rec_at v name r.id ≡ Some s → Gives judged (admitted v with_body c s))
-    → IfSome (collection_at w name) (λ c. Gives result (creation w ask c body words))
-created_given w name ask with_body body words r v judged d result h leads judges = if_found (collection_at w name) _ (λ c e.
-    planned (created w ask c body words) (admitted (world_with w c r) with_body c r) judged result r c.name (leads c e ∙ admitted_is w with_body c r)
-    (subst (λ x. Gives judged (admitted x with_body c r)) (h.world ∙ named_put w name c r e) (judges c r (still_there w v name c h.collections e) h.found))
-    (told_put w name c r v judged d result h e))
+-- what was judged where it stands is planned
+pub put_given : (w : World) (name : Name) (creator : Option Ask) (r : Rec) (v : World) (verdict : Result (Unit {0}) ChangeFault) (d : Delta) (result : Result Delta ChangeFault)
+    → IsJudged w name r v verdict d result
+    → ((c : Collection) (s : Rec) → collection_at v name ≡ Some c → rec_at v name r.id ≡ Some s → Gives verdict (judged v creator c s))
+    → (c : Collection) → collection_at w name ≡ Some c → Gives result (put_planned w creator c r)
+put_given w name creator r v verdict d result h judges c e =
+    planned (put_judged w creator c r) (judged (world_with w c r) creator c r) verdict result r c.name (judged_is w creator c r)
+    (subst (λ x. Gives verdict (judged x creator c r)) (h.world ∙ named_put w name c r e) (judges c r (still_there w v name c h.collections e) h.found))
+    (told_put w name c r v verdict d result h e)
 
-pub updated_given : (w : World) (name : Name) (ask : Ask) (id : Id) (body : Option Jv) (r : Rec) (v : World) (judged : Result (Unit {0}) ChangeFault) (d : Delta)
-    (result : Result Delta ChangeFault) → IsJudged w name r v judged d result
-    → ((c : Collection) → collection_at w name ≡ Some c → updated w ask c id body ≡ put_checked w c r)
-    → ((c : Collection) (s : Rec) → collection_at v name ≡ Some c → rec_at v name r.id ≡ Some s → Gives judged (checked v c s))
-    → IfSome (collection_at w name) (λ c. Gives result (update w ask c id body))
-updated_given w name ask id body r v judged d result h leads judges = if_found (collection_at w name) _ (λ c e.
-    planned (updated w ask c id body) (checked (world_with w c r) c r) judged result r c.name (leads c e ∙ checked_is w c r)
-    (subst (λ x. Gives judged (checked x c r)) (h.world ∙ named_put w name c r e) (judges c r (still_there w v name c h.collections e) h.found))
-    (told_put w name c r v judged d result h e))
-
--- the refusals of the parts are those of the whole
-pub creation_stops : (w : World) (name : Name) (ask : Ask) (body : Option Jv) (words : List ℕ) (f : ChangeFault)
-    → ((c : Collection) → collection_at w name ≡ Some c → f ≢ fault.Memory → created w ask c body words ≡ Err f)
-    → IfSome (collection_at w name) (λ c. f ≢ fault.Memory → creation w ask c body words ≡ Err f)
-creation_stops w name ask body words f stops = if_found (collection_at w name) _ (λ c e told. ap (λ n. n >>= λ s. Ok (puts c.name s)) (stops c e told))
-
-pub update_stops : (w : World) (name : Name) (ask : Ask) (id : Id) (body : Option Jv) (f : ChangeFault)
-    → ((c : Collection) → collection_at w name ≡ Some c → f ≢ fault.Memory → updated w ask c id body ≡ Err f)
-    → IfSome (collection_at w name) (λ c. f ≢ fault.Memory → update w ask c id body ≡ Err f)
-update_stops w name ask id body f stops = if_found (collection_at w name) _ (λ c e told. ap (λ n. n >>= λ s. Ok (puts c.name s)) (stops c e told))
+-- what leads to a put has its delta
+pub plan_given : (w : World) (name : Name) (answer : Collection → Result Rec ChangeFault) (creator : Option Ask) (r : Rec) (result : Result Delta ChangeFault)
+    → ((c : Collection) → collection_at w name ≡ Some c → answer c ≡ put_judged w creator c r)
+    → ((c : Collection) → collection_at w name ≡ Some c → Gives result (put_planned w creator c r))
+    → IfSome (collection_at w name) (λ c. Gives result (answer c >>= λ s. Ok (puts c.name s)))
+plan_given w name answer creator r result leads given =
+    if_found (collection_at w name) _ (λ c e. subst (λ a. Gives result (a >>= λ s. Ok (puts c.name s))) (sym (leads c e)) (given c e))
 
 -- ---- what stands
 

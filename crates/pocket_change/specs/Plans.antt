@@ -1,7 +1,8 @@
 -- The parts of a creation and of an update, in the order in which they are planned.
-use Rattle.std.specs.Prelude.{◌≡◌, ◌≢◌, ℕ, List, Option, Some, None, Result, Err, MatchResult}
+use Rattle.std.specs.Prelude.{◌≡◌, ◌≢◌, ℕ, List, Option, Some, None, Result, Ok, Err, MatchResult}
 use Rattle.pocket_types.specs.Chains.{◌>>=◌, or_refuse, refuse_as}
 use Rattle.pocket_types.specs.Sound.{IsSoundCollection}
+use Rattle.pocket_types.specs.declared.deltas.Delta.{Delta}
 use Rattle.pocket_types.specs.declared.ids.Id.{Id}
 use Rattle.pocket_types.specs.declared.json.Jv.{Jv}
 use Rattle.pocket_types.specs.declared.names.Name.{Name}
@@ -16,7 +17,7 @@ use Rattle.pocket_gate.specs.Rules.{verdict}
 use Rattle.pocket_check.specs.Bodies.{given_id, sent, sent_over, with_sent}
 use Rattle.pocket_check.specs.Cells.{zero_cells}
 use Rattle.pocket_check.specs.Validity.{faults_of}
-use Rattle.pocket_change.specs.Changes.{allowed, candidate_put, faultless, new_rec, of_check, old_put, put_checked, unlocked, within_limits, world_with}
+use Rattle.pocket_change.specs.Changes.{allowed, candidate_put, faultless, new_rec, of_check, old_put, put_checked, puts, unlocked, within_limits, world_with}
 use Rattle.pocket_change.specs.Limits.{passed_limit}
 use Rattle.pocket_change.specs.declared.fault.ChangeFault.{ChangeFault}
 use Rattle.pocket_change.specs.declared.fault.ChangeFault.TheVariants as fault
@@ -71,6 +72,20 @@ abbrev pub admitted : World → Ask → Collection → Rec → Result (Unit {0})
 admitted w ask c r = do
   _ ← allowed (verdict w ask action.Create c r)
   checked w c r
+
+-- a record that stands in a world is checked; one that a request creates is admitted first
+abbrev pub judged : World → Option Ask → Collection → Rec → Result (Unit {0}) ChangeFault
+judged w None c r = checked w c r
+judged w (Some ask) c r = admitted w ask c r
+
+-- the put of a record that is judged so in the world with it put in
+abbrev pub put_judged : World → Option Ask → Collection → Rec → Result Rec ChangeFault
+put_judged w None c r = put_checked w c r
+put_judged w (Some ask) c r = admitted_put w ask c r
+
+-- the delta of such a put
+abbrev pub put_planned : World → Option Ask → Collection → Rec → Result Delta ChangeFault
+put_planned w creator c r = put_judged w creator c r >>= λ s. Ok (puts c.name s)
 
 -- a sound collection of this name stands in a world, with a record of this id in its shape
 pub record Stands (w : World) (name : Name) (id : Id) : Type 0 where

@@ -1,5 +1,6 @@
 // Records judged in the world in which they stand.
 ghost use Rattle.std.specs.Prelude.{◌≡◌, ◌≤◌, Err, MatchResult, Some};
+ghost use Rattle.std.specs.Option.{option_copied};
 ghost use Rattle.pocket_types.specs.Sound.{IsSoundCollection};
 ghost use Rattle.pocket_types.specs.Within.{collections_of};
 ghost use Rattle.pocket_types.specs.declared.records.Collection.{Collection};
@@ -8,7 +9,7 @@ ghost use Rattle.pocket_tables.specs.Worlds.{HasShape, collection_at, rec_at, sh
 ghost use Rattle.pocket_gate.specs.Built.{rules_of};
 ghost use Rattle.pocket_change.specs.Answers.{Gives};
 ghost use Rattle.pocket_change.specs.Changes.{allowed, faultless};
-ghost use Rattle.pocket_change.specs.Plans.{Stands, admitted, checked};
+ghost use Rattle.pocket_change.specs.Plans.{Stands, checked, judged};
 ghost use Rattle.pocket_change.specs.declared.fault.ChangeFault.TheVariants as fault;
 
 use crate::fault::ChangeFault;
@@ -73,12 +74,12 @@ fn check<L: Ledger>(
     }
 }
 
-/// Whether the create rule admits a record that stands in the tables, and nothing is wrong with it.
+/// Whether nothing is wrong with a record that stands in the tables; of one that a request creates first whether the create rule admits it.
 fn judge<L: Ledger>(
     alloc: Global,
     tables: &Tables,
     rules: &Rules,
-    ask: &Ask,
+    creator: Option<&Ask>,
     collection: &Collection,
     rec: &Rec,
     steps: &mut Steps<L>,
@@ -87,9 +88,12 @@ fn judge<L: Ledger>(
     requires there { collection_at tables.now.world collection.now.name ≡ Some collection.now }
     requires sound { IsSoundCollection collection.now }
     requires shape { HasShape (shapes_of collection.now) rec.now }
-    ensures judged { Gives result (admitted tables.now.world ask.now collection.now rec.now) }
+    ensures judged { Gives result (judged tables.now.world (option_copied creator.entry) collection.now rec.now) }
     ensures steps { steps.old ≤ steps.new }
 {
+    let Some(ask) = creator else {
+        return check(alloc, tables, collection, rec, steps);
+    };
     let name = &collection.name;
     let verdict = rules.may(alloc, tables, ask, Action::Create, name, rec, steps);
     match admit(verdict) {
@@ -98,36 +102,12 @@ fn judge<L: Ledger>(
     }
 }
 
-/// Checks the record of a collection and an id.
-pub(crate) fn check_standing<L: Ledger>(
-    alloc: Global,
-    tables: &Tables,
-    collection: &Name,
-    id: Id,
-    steps: &mut Steps<L>,
-) -> Result<(), ChangeFault>
-    requires stands { Stands tables.now.world collection.now id }
-    ensures checked { (c : Collection) (r : Rec) → collection_at tables.now.world collection.now ≡ Some c → rec_at tables.now.world collection.now id ≡ Some r
-        → Gives result (checked tables.now.world c r) }
-    ensures steps { steps.old ≤ steps.new }
-{
-    let found = collection_named(tables.collections(), collection);
-    let rec = tables.rec(collection, id, steps);
-    match found {
-        Some(collection) => match rec {
-            Some(rec) => check(alloc, tables, collection, rec, steps),
-            None => unreachable!(),
-        },
-        None => unreachable!(),
-    }
-}
-
-/// Judges the new record of a collection and an id.
+/// Judges the record of a collection and an id.
 pub(crate) fn judge_standing<L: Ledger>(
     alloc: Global,
     tables: &Tables,
     rules: &Rules,
-    ask: &Ask,
+    creator: Option<&Ask>,
     collection: &Name,
     id: Id,
     steps: &mut Steps<L>,
@@ -135,14 +115,14 @@ pub(crate) fn judge_standing<L: Ledger>(
     requires rules { rules.now ≡ rules_of (collections_of tables.now.world) }
     requires stands { Stands tables.now.world collection.now id }
     ensures judged { (c : Collection) (r : Rec) → collection_at tables.now.world collection.now ≡ Some c → rec_at tables.now.world collection.now id ≡ Some r
-        → Gives result (admitted tables.now.world ask.now c r) }
+        → Gives result (judged tables.now.world (option_copied creator.entry) c r) }
     ensures steps { steps.old ≤ steps.new }
 {
     let found = collection_named(tables.collections(), collection);
     let rec = tables.rec(collection, id, steps);
     match found {
         Some(collection) => match rec {
-            Some(rec) => judge(alloc, tables, rules, ask, collection, rec, steps),
+            Some(rec) => judge(alloc, tables, rules, creator, collection, rec, steps),
             None => unreachable!(),
         },
         None => unreachable!(),

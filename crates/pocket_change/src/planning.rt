@@ -12,12 +12,12 @@ ghost use Rattle.pocket_tables.specs.Worlds.{MayStand, collection_at, rec_at};
 ghost use Rattle.pocket_gate.specs.Built.{rules_of};
 ghost use Rattle.pocket_change.specs.Answers.{Gives};
 ghost use Rattle.pocket_change.specs.Changes.{created, creation, put_checked, update, updated};
-ghost use Rattle.pocket_change.specs.Plans.{LeadsTo, admitted_put};
+ghost use Rattle.pocket_change.specs.Plans.{LeadsTo, admitted_put, put_planned};
 ghost use Rattle.pocket_change.specs.declared.fault.ChangeFault.TheVariants as fault;
 
 use crate::candidates::{Candidate, body_candidate, refusal, rewritten_rec};
 use crate::fault::ChangeFault;
-use crate::judging::{check_standing, judge_standing};
+use crate::judging::judge_standing;
 use crate::putting::{put_in, take_back};
 use pocket_gate::{Rules, collection_named};
 use pocket_tables::Tables;
@@ -75,6 +75,37 @@ fn rewritten_in<L: Ledger>(
     }
 }
 
+/// The delta that puts a record into a collection, or why it may not be put; one that a request creates is judged by the create rule too. The
+/// tables are as before, and ready for the delta.
+fn plan_put<L: Ledger>(
+    alloc: Global,
+    tables: &mut Tables,
+    rules: &Rules,
+    creator: Option<&Ask>,
+    collection: &Name,
+    rec: Rec,
+    steps: &mut Steps<L>,
+) -> Result<Delta, ChangeFault>
+    requires rules { rules.now ≡ rules_of (collections_of tables.old.world) }
+    requires sound { All HasSoundParts tables.old.world.shelves }
+    requires stands { MayStand (collection_at tables.old.world collection.now) rec }
+    ensures delta { (c : Collection) → collection_at tables.old.world collection.now ≡ Some c
+        → Gives result (put_planned tables.old.world (option_copied creator.entry) c rec) }
+    ensures world { tables.new.world ≡ tables.old.world }
+    ensures fits { IfOk result (λ d. FitsWorld d tables.new.world) }
+    ensures ready { IfOk result (λ d. IsReady tables.new d) }
+    ensures kept { KeepsReady tables.old tables.new }
+    ensures steps { steps.old ≤ steps.new }
+{
+    let id = rec.id;
+    let back = match put_in(alloc, tables, collection, rec) {
+        Ok(back) => back,
+        Err(_) => return Err(ChangeFault::Memory),
+    };
+    let judged = judge_standing(alloc, tables, rules, creator, collection, id, steps);
+    take_back(tables, back, judged)
+}
+
 /// The delta that creates a record of a collection, or the first refusal. The tables are as before, and ready for the delta.
 pub fn plan_create<L: Ledger>(
     alloc: Global,
@@ -103,13 +134,7 @@ pub fn plan_create<L: Ledger>(
         Err(fault) => return Err(fault),
     };
     let Candidate { rec, ask } = made;
-    let id = rec.id;
-    let back = match put_in(alloc, tables, collection, rec) {
-        Ok(back) => back,
-        Err(_) => return Err(ChangeFault::Memory),
-    };
-    let judged = judge_standing(alloc, tables, rules, &ask, collection, id, steps);
-    take_back(tables, back, judged)
+    plan_put(alloc, tables, rules, Some(&ask), collection, rec, steps)
 }
 
 /// The delta that changes the record of a collection and an id, or the first refusal. The tables are as before, and ready for the delta.
@@ -139,13 +164,7 @@ pub fn plan_update<L: Ledger>(
         Ok(rec) => rec,
         Err(fault) => return Err(fault),
     };
-    let id = rec.id;
-    let back = match put_in(alloc, tables, collection, rec) {
-        Ok(back) => back,
-        Err(_) => return Err(ChangeFault::Memory),
-    };
-    let judged = check_standing(alloc, tables, collection, id, steps);
-    take_back(tables, back, judged)
+    plan_put(alloc, tables, rules, None, collection, rec, steps)
 }
 
 /// Why an update is refused where no record stands: at a text that has no id's form, or at an id of no record.
