@@ -9,7 +9,7 @@ ghost use Rattle.pocket_serve.specs.Serving.{GoesOn, IsRefusal, IsServed};
 ghost use Rattle.pocket_serve.specs.Sessions.{IsExchange};
 
 use crate::service::Service;
-use pocket_api::{Draw, Reply, ReplyBody, no_memory_reply, reply_bytes, work_of};
+use pocket_api::{Draw, Reply, fixed_bytes, no_memory_reply, reply_bytes, work_of};
 use pocket_wire::{Clock, Dice, Ended, Request, Sink, refused_reply, write_all};
 use std::alloc::Global;
 
@@ -45,8 +45,8 @@ fn send_reply<O: Sink>(alloc: Global, sink: &mut O, reply: &Reply, close: bool) 
     ensures count { O.faults sink.old ≤ O.faults sink.new }
     ensures apart { O.untouched sink.new ≡ O.untouched sink.old }
 {
-    if let ReplyBody::NoMemory = reply.body {
-        return send(sink, no_memory_reply(close));
+    if let Some(bytes) = fixed_bytes(reply, close) {
+        return send(sink, bytes);
     }
     match reply_bytes(alloc, reply, close) {
         Ok(bytes) => send(sink, bytes.as_slice()),
