@@ -4,3 +4,4 @@ pub mod TextLemmas
 pub mod TermLemmas
 pub mod SeenLemmas
 pub mod PageLemmas
+pub mod LawLemmas

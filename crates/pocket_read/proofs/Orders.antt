@@ -54,7 +54,7 @@ same_order (value.Text a) (value.Flag b) = refl
 same_order (value.Text a) (value.Num b) = refl
 same_order (value.Text a) (value.Text b) = refl
 
-value_total : IsTotalOrder value_cmp
+pub value_total : IsTotalOrder value_cmp
 value_total = subst IsTotalOrder (λ i a b. same_order a b i) by_parts_total
 
 directed_total : {K : Type 0} (R : K → K → Ordering) → IsTotalOrder R → (falling : Bool) → IsTotalOrder (λ x y. directed falling (R x y))

@@ -4,3 +4,4 @@ pub mod Terms
 pub mod Sorting
 pub mod Keys
 pub mod Pages
+pub mod Laws

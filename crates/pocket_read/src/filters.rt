@@ -22,7 +22,7 @@ use pocket_types::{
 use std::alloc::{AllocError, Global};
 use std::sync::ledger::Ledger;
 
-fn tree_of(alloc: Global, text: &str) -> Result<Expr, ReadFault>
+fn parsed(alloc: Global, text: &str) -> Result<Expr, ReadFault>
     ensures { Gives result (refuse_as BadFilter (parsed text.now)) }
 {
     match parse(alloc, text) {
@@ -65,7 +65,7 @@ fn plan_of_text(
 ) -> Result<Plan, ReadFault>
     ensures { GivesAs Some result (filter_of_text collections.now purpose.now text.now) }
 {
-    let tree = tree_of(alloc, text)?;
+    let tree = parsed(alloc, text)?;
     let filter = filter_of(alloc, collections, purpose, &tree);
     drop(tree);
     Ok(plan_of(alloc, filter?)?)

@@ -1,30 +1,38 @@
 // What follows from the definitions. Each law is a function without a body.
-ghost use Rattle.std.specs.Prelude.{◌≡◌, ℕ, ℤ, Bool, List, map};
+ghost use Rattle.std.specs.Prelude.{◌≡◌, ℕ, List, map};
+ghost use Rattle.std.specs.Cmp.{IsTotalOrder};
 ghost use Rattle.std.specs.List.Sorted.{IsPermutation, IsSortedBy};
 ghost use Rattle.std.specs.Cmp.Lexicographic.{slice_cmp};
 ghost use Rattle.std.specs.Ordering.{nat_cmp};
-ghost use Rattle.std.specs.declared.cmp.Ordering.TheVariants.{Equal, Less};
+ghost use Rattle.std.specs.declared.cmp.Ordering.TheVariants.{Equal};
 ghost use Rattle.pocket_types.specs.declared.names.Name.{Name};
 ghost use Rattle.pocket_types.specs.declared.records.Rec.{Rec};
 ghost use Rattle.pocket_types.specs.declared.requests.Ask.{Ask};
-ghost use Rattle.pocket_types.specs.declared.values.Value.TheVariants as value;
 ghost use Rattle.pocket_types.specs.declared.world.World.{World};
-ghost use Rattle.pocket_read.specs.Pages.{page_number, page_size};
+ghost use Rattle.pocket_read.specs.Laws.{IsNumber, IsSize, KindsAreRanked, PagesAreTheList};
+ghost use Rattle.pocket_read.specs.Pages.{page_size};
 ghost use Rattle.pocket_read.specs.Sorting.{key_cmp, key_of, sorted_keys, stands_before, value_cmp, values_cmp};
 ghost use Rattle.pocket_read.specs.declared.keys.SortKey.{SortKey};
 ghost use Rattle.pocket_read.specs.declared.terms.SortTerm.{SortTerm};
 
 /// Pages are counted from 1, and have 1 to 500 records; 30 where none is asked for.
 pub fn pages_are_clamped()
-    ensures number { (page_number 0 ≡ 1) × (page_number 1 ≡ 1) × (page_number 3 ≡ 3) }
-    ensures size { (page_size 0 ≡ 30) × (page_size 1 ≡ 1) × (page_size 500 ≡ 500) × (page_size 501 ≡ 500) }
+    ensures number { (asked : ℕ) → IsNumber asked }
+    ensures size { (asked : ℕ) → IsSize asked }
+    ensures unasked { page_size 0 ≡ 30 }
 {}
 
-/// Nothing stands before flags, flags before numbers, and numbers before texts.
+/// As many pages as have room for a list show it one after another: each of its records once, and in order.
+#[tactic(auto, using(crate::proofs::LawLemmas::pages_are_the_list))]
+pub fn pages_are_the_list()
+    ensures { PagesAreTheList }
+{}
+
+/// Nothing stands before flags, flags before numbers, and numbers before texts, whatever they are. All values stand in one order.
+#[tactic(auto, using(crate::proofs::LawLemmas::kinds_are_ranked, crate::proofs::Orders::value_total))]
 pub fn values_are_ranked()
-    ensures flags { (b : Bool) → value_cmp value.Nothing (value.Flag b) ≡ Less }
-    ensures numbers { (b : Bool) (n : ℤ) → value_cmp (value.Flag b) (value.Num n) ≡ Less }
-    ensures texts { (n : ℤ) (t : List ℕ) → value_cmp (value.Num n) (value.Text t) ≡ Less }
+    ensures kinds { KindsAreRanked }
+    ensures order { IsTotalOrder value_cmp }
 {}
 
 /// Where the terms tell two records not apart, the ids do, rising whichever way the terms go.
