@@ -2,7 +2,7 @@
 use Rattle.std.proofs.Common.{◌≡◌, ◌∙◌, ◌⊎◌, inl, inr, ℕ, ◌+◌, ◌≤◌, Bool, true, false, cond, List, [], ◌∷◌, ◌++◌, Option, Some, None, Ok, Err, ap, arith, length, refl, subst, sym}
 use Rattle.std.specs.Prelude.{◌||◌, MatchBool, is_some, nat_le, nat_lt}
 use Rattle.std.proofs.lemmas.Bool.{MatchBool-at_false, false≢true, ltb-false, true≢false}
-use Rattle.pocket_types.specs.Causes.{Rose, StaysUntold}
+use Rattle.pocket_types.specs.Causes.{StaysUntold}
 use Rattle.pocket_types.specs.declared.json.Jv.{Jv}
 use Rattle.pocket_types.specs.declared.requests.Ask.{Ask}
 use Rattle.pocket_types.specs.declared.world.World.{World}
@@ -20,7 +20,7 @@ use Rattle.pocket_api.specs.declared.reply.Reply.{Reply}
 use Rattle.pocket_api.specs.declared.work.Work.{Work}
 use Rattle.pocket_core.specs.Answers.{EntersWork, IsAnswer, accepted_answer, after, answer, answer_of, full_history, is_full, outcome, tally_of, work_outcome}
 use Rattle.pocket_core.specs.Changing.{Put}
-use Rattle.pocket_core.specs.Entering.{Commits, Entered, Entry, Full, IsAsBefore, IsCall, IsCounted, IsEntered, IsReply, IsStandingOf, Standing, Unkept, Wanting, rows_with_put, tally_in, unkept_answer}
+use Rattle.pocket_core.specs.Entering.{Commits, Entered, Entry, Full, IsAsBefore, IsCall, IsCounted, IsEntered, IsReply, IsStandingOf, IsUnchanged, IsUndone, Standing, Unkept, Wanting, rows_with_put, tally_in, unkept_answer}
 use Rattle.pocket_core.specs.Opening.{AreRowsOf, IfTold}
 use Rattle.pocket_core.specs.Outcomes.{Enters, IsReading, Outcome, Tally, Tree, state_after}
 use Rattle.pocket_core.specs.Showing.{displayed}
@@ -98,7 +98,7 @@ module _ (opening : MachineState) (work : Work) (old new : Standing) (s : Machin
 
   -- what the reply is decides, where the work isn't entered
   stays : IsReply opening old.history work reply → ¬ EntersWork (answer opening old.history work) reply
-      → IsCounted old.faults new.faults reply → IsAsBefore old new → IsCall opening work old new s reply
+      → IsCounted old.faults new.faults reply → IsUnchanged old new → IsCall opening work old new s reply
   stays said out count same = record {
     said = said;
     history = inr (out, same.history);
@@ -112,7 +112,7 @@ module _ (opening : MachineState) (work : Work) (old new : Standing) (s : Machin
   }
 
   -- the state that is left is the same, told with the world that is left
-  pub in_place : IsAsBefore old new → IsCall opening work old new s reply → IsCall opening work old new (record s { world = new.world }) reply
+  pub in_place : IsUnchanged old new → IsCall opening work old new s reply → IsCall opening work old new (record s { world = new.world }) reply
   in_place same call = subst (λ next. IsCall opening work old new next reply) (ap with_world (sym (same.world ∙ h.world))) call
 
   -- whatever the outcome, memory may be wanting
@@ -121,7 +121,7 @@ module _ (opening : MachineState) (work : Work) (old new : Standing) (s : Machin
       let out = λ (enters : EntersWork (answer opening old.history work) reply).
       let low = entering_is_low place (outcome (tally_of old.history) (after opening old.history) work) enters.1 in
       absurd (omega (arith, low, enters.0.status, wanting.status)) in
-      stays (inr (inl wanting)) out (wanting_counts place reply old.faults new.faults same.later wanting) same
+      stays (inr (inl wanting)) out (wanting_counts place reply old.faults new.faults same.faults wanting) same.rest
 
   -- an outcome that isn't entered is the answer
   said_call : (o : Outcome) → outcome (tally_in old) s work ≡ o → IsReading o → IsAnswer (answer_of (length old.history) o) reply → IsAsBefore old new
@@ -131,7 +131,7 @@ module _ (opening : MachineState) (work : Work) (old new : Standing) (s : Machin
       let answers = subst (λ a. IsAnswer a reply) (sym path) said in
       let out = λ (enters : EntersWork (answer opening old.history work) reply).
       false≢true (sym (answer_reads place o reads) ∙ ap (λ a. a.enters) (sym path) ∙ enters.1) in
-      stays (inl answers) out (answer_counts opening old.history work reply old.faults new.faults same.later answers) same
+      stays (inl answers) out (answer_counts opening old.history work reply old.faults new.faults same.faults answers) same.rest
 
   -- a work that isn't entered
   pub silent_call : IsReading (work_outcome s work)
@@ -194,7 +194,7 @@ module _ (opening : MachineState) (work : Work) (old new : Standing) (s : Machin
             within = subst (λ n. n ≤ 268435456) (sym e.bytes) (has_room (tally_in old) work free);
             rows = rows_put s put putting old.world h.world old.rows new.rows e.rows e.untold h.rows;
             untold = e.untold;
-            count = answer_counts opening old.history work reply old.faults new.faults e.later answers;
+            count = answer_counts opening old.history work reply old.faults new.faults e.faults answers;
           }
 
     -- where the keeper isn't to be asked, the history is full or the record's row stands there
@@ -214,13 +214,15 @@ module _ (opening : MachineState) (work : Work) (old new : Standing) (s : Machin
     abbrev shown_then : World → Jv
     shown_then w = displayed (world_with w put.collection put.rec) ask put.collection display put.rec
 
-    unkept_call : is_full (tally_in old) work ≡ false → row_stands old.world put.collection put.rec ≡ false → Rose old.faults new.faults
-        → IsAnswer (unkept_answer (length old.history)) reply → IsAsBefore old new → IsCall opening work old new s reply
-    unkept_call free other rose said same =
+    unkept_call : is_full (tally_in old) work ≡ false → row_stands old.world put.collection put.rec ≡ false
+        → IsAnswer (unkept_answer (length old.history)) reply → IsUndone old new → IsCall opening work old new s reply
+    unkept_call free other said undone =
         let commits = commits_put put (shown_then s.world) putting asked free (ap (λ w. row_stands w put.collection put.rec) (sym h.world) ∙ other) in
         let out = λ (enters : EntersWork (answer opening old.history work) reply).
         no_answer_is_500 opening old.history work (sym enters.0.status ∙ said.status) in
-        stays (inr (inr (record { commits = commits; said = said }))) out (record { later = same.later; failed = λ _. rose }) same
+        let count : IsCounted old.faults new.faults reply =
+        record { later = undone.later; failed = λ _. undone.rose; told = λ _. said.status } in
+        stays (inr (inr (record { commits = commits; said = said }))) out count undone.rest
 
     -- a work that puts a record
     pub entered_call : Entry ask work display put old new reply → IsCall opening work old new (record s { world = new.world }) reply
@@ -231,6 +233,6 @@ module _ (opening : MachineState) (work : Work) (old new : Standing) (s : Machin
         (put_call put (shown_then s.world) putting asked free answers e)
     entered_call (Full full said same) =
         let refused = outcome_full (tally_in old) s work (state_with s put.collection put.rec) (Tree (shown_then s.world)) asked full in
-        in_place same (said_call (Err (full_history (tally_in old) work)) refused tt said same)
-    entered_call (Wanting wanting same) = in_place same (wanting_call wanting same)
-    entered_call (Unkept free other rose said same) = in_place same (unkept_call free other rose said same)
+        in_place same.rest (said_call (Err (full_history (tally_in old) work)) refused tt said same)
+    entered_call (Wanting wanting same) = in_place same.rest (wanting_call wanting same)
+    entered_call (Unkept free other said undone) = in_place undone.rest (unkept_call free other said undone)

@@ -37,15 +37,15 @@ entry_collections : (ask : Ask) (work : Work) (display : Display) (put : Put) (o
     → Entry ask work display put old new reply → collections_of new.world ≡ collections_of old.world
 entry_collections ask work display put old new reply tabled placed (entering.Entered free said e) =
     ap collections_of e.world ∙ same_collections old.world put tabled placed
-entry_collections ask work display put old new reply tabled placed (entering.Full full said same) = ap collections_of same.world
-entry_collections ask work display put old new reply tabled placed (entering.Wanting wanting same) = ap collections_of same.world
-entry_collections ask work display put old new reply tabled placed (entering.Unkept free other rose said same) = ap collections_of same.world
+entry_collections ask work display put old new reply tabled placed (entering.Full full said same) = ap collections_of same.rest.world
+entry_collections ask work display put old new reply tabled placed (entering.Wanting wanting same) = ap collections_of same.rest.world
+entry_collections ask work display put old new reply tabled placed (entering.Unkept free other said undone) = ap collections_of undone.rest.world
 
 -- and so does every work
 pub handled_collections : (s : MachineState) (ask : Ask) (rest : Rest) (old new : Standing) (reply : Reply) → IsTabled old.world
     → Handling s ask rest old new reply → collections_of new.world ≡ collections_of old.world
-handled_collections s ask rest old new reply tabled (courses.Silent reads said same) = ap collections_of same.world
-handled_collections s ask rest old new reply tabled (courses.Wanting wanting same) = ap collections_of same.world
+handled_collections s ask rest old new reply tabled (courses.Silent reads said same) = ap collections_of same.rest.world
+handled_collections s ask rest old new reply tabled (courses.Wanting wanting same) = ap collections_of same.rest.world
 handled_collections s ask rest old new reply tabled (courses.Puts shown put placed is entry) =
     entry_collections ask (whole_of ask rest) (display_of shown) put old new reply tabled placed entry
 
@@ -69,9 +69,9 @@ module _ (opening : MachineState) (work : Work) (old new : Standing) (s : Machin
   -- what becomes of the parts is a call of the work
   pub handled_call : Handling s ask rest old new reply → IsCall opening work old new (record s { world = new.world }) reply
   handled_call (courses.Silent reads said same) =
-      in_place opening work old new s reply h same
+      in_place opening work old new s reply h same.rest
       (silent_call opening work old new s reply h (subst IsReading same_outcome reads) (inl (subst (λ o. IsAnswer (answer_of (length old.history) o) reply) same_outcome said)) same)
-  handled_call (courses.Wanting wanting same) = in_place opening work old new s reply h same (wanting_call opening work old new s reply h wanting same)
+  handled_call (courses.Wanting wanting same) = in_place opening work old new s reply h same.rest (wanting_call opening work old new s reply h wanting same)
   handled_call (courses.Puts shown put placed is entry) =
       entered_call opening work old new s reply h ask (display_of shown) put (putting shown put is placed) (asked shown put is)
       (subst (λ w. Entry ask w (display_of shown) put old new reply) whole entry)
@@ -95,7 +95,10 @@ module _ (ask : Ask) (rest : Rest) (w : World) (history : List Work) (bytes : �
   found v = record { world = v; history = history; bytes = bytes; rows = rows; faults = faults }
 
   stays : IsAsBefore (found tables.world) (found tables.world)
-  stays = record { world = refl; history = refl; bytes = refl; rows = rows_same rows; untold = λ none. none; later = omega arith }
+  stays = record {
+    rest = record { world = refl; history = refl; bytes = refl; rows = rows_same rows; untold = λ none. none };
+    faults = refl;
+  }
 
   pub replies_handled : IsCourse at s tables ask rest (course.Replies reply) → Handling s ask rest (found w) (found tables.world) reply
   replies_handled is =

@@ -3,13 +3,15 @@ use Rattle.std.proofs.Common.{◌≡◌, ◌∙◌, ◌⊎◌, inl, inr, ℕ, �
 use Rattle.std.specs.Prelude.{IsSome}
 use Rattle.std.specs.Str.{bytes_eq}
 use Rattle.std.proofs.lemmas.Bool.{false≢true}
-use Rattle.pocket_types.specs.Causes.{StaysUntold}
+use Rattle.pocket_types.specs.Causes.{Rose, StaysUntold}
 use Rattle.pocket_types.specs.Within.{collections_of}
 use Rattle.pocket_types.specs.declared.deltas.Delta.{Delta}
 use Rattle.pocket_types.specs.declared.records.Rec.{Rec}
 use Rattle.pocket_types.specs.declared.requests.Ask.{Ask}
 use Rattle.pocket_types.specs.declared.world.World.{World}
-use Rattle.pocket_keeper.specs.Keeping.{AreAsBefore, IfBothTold, committed}
+use Rattle.pocket_keeper.specs.Keeping.{AreAsBefore, IfBothTold, committed, counted}
+use Rattle.pocket_keeper.specs.declared.rows.KeepFault.{KeepFault}
+use Rattle.pocket_keeper.specs.declared.rows.KeepFault.TheVariants.{Failed, Memory}
 use Rattle.pocket_keeper.specs.declared.rows.KeptRow.{KeptRow}
 use Rattle.pocket_tables.specs.Deltas.{FitsWorld, inverse, world_after}
 use Rattle.pocket_tables.specs.Kept.{Kept}
@@ -27,11 +29,11 @@ use Rattle.pocket_core.specs.Answers.{IsAnswer, accepted_answer, answer_of, has_
 use Rattle.pocket_core.specs.Callers.{whole_of}
 use Rattle.pocket_core.specs.Changing.{Put}
 use Rattle.pocket_core.specs.Courses.{IsPlaced, IsPlanned}
-use Rattle.pocket_core.specs.Entering.{Entered, Entry, Full, IsAsBefore, Standing, Unkept, Wanting, rows_with_put, unkept_answer}
+use Rattle.pocket_core.specs.Entering.{Entered, Entry, Full, IsAsBefore, IsUnchanged, Standing, Unkept, Wanting, rows_with_put, unkept_answer}
 use Rattle.pocket_core.specs.Outcomes.{Tally, Tree}
 use Rattle.pocket_core.specs.Showing.{displayed}
 use Rattle.pocket_core.specs.declared.callers.Rest.{Rest}
-use Rattle.pocket_core.specs.Preparing.{HasNoPlace, IsKeptAs, IsNotKept, IsNotPut, IsPrepared, IsPutAs, LeadsBack, WantsRow, back_from, with_row}
+use Rattle.pocket_core.specs.Preparing.{HasNoPlace, IsKeptAs, IsNotKept, IsNotPut, IsPrepared, IsPutAs, LeadsBack, SaysUnkept, WantsRow, back_from, with_row}
 use Rattle.pocket_core.specs.declared.entering.Prepared.{Prepared}
 use Rattle.pocket_core.specs.declared.showing.Display.{Display}
 
@@ -54,6 +56,13 @@ pub rows_committed : (old new : Option (List KeptRow)) (wanted : Option KeptRow)
 rows_committed old new wanted row is =
     told_more (λ before now. now ≡ committed before (row ∷ []) []) (λ before now. now ≡ with_row wanted before)
     (λ before now e. e ∙ sym (ap (λ x. with_row x before) is)) old new
+
+-- a row isn't kept: the keeper failed, or memory was wanting
+pub not_kept : {E : Type 0} (prepared : Result Prepared E) (old new : Option (List KeptRow)) (before now at : ℕ) (fault : KeepFault) (reply : Reply)
+    → (fault ≡ Failed → Rose before now) → now ≡ counted {T = Unit {0}} before (Err fault) → WantsRow prepared → AreAsBefore old new → SaysUnkept fault at reply
+    → IsNotKept prepared old new before now at reply
+not_kept prepared old new before now at Failed reply rose counts wants same said = record { said = inr (said, rose refl, wants); rows = same }
+not_kept prepared old new before now at Memory reply rose counts wants same said = record { said = inl (said, counts); rows = same }
 
 module _ (w : World) (put : Put) where
   abbrev pub then : World
@@ -183,12 +192,8 @@ module _ (ask : Ask) (rest : Rest) (display : Display) (put : Put) (w : World) (
   -- all stays where the history is the same
   stays_so : (works : List Work) → works ≡ history → IsAsBefore before (record { world = w; history = works; bytes = bytes; rows = rows; faults = faults })
   stays_so works same = record {
-    world = refl;
-    history = same;
-    bytes = refl;
-    rows = rows_same rows;
-    untold = λ none. none;
-    later = omega arith;
+    rest = record { world = refl; history = same; bytes = refl; rows = rows_same rows; untold = λ none. none };
+    faults = refl;
   }
 
   -- a work for which there is no place
@@ -203,21 +208,22 @@ module _ (ask : Ask) (rest : Rest) (display : Display) (put : Put) (w : World) (
     free_here : has_no_room (tally_at (length history)) rest.cost ≡ false
     free_here = ap (λ n. has_no_room (tally_at n) rest.cost) (sym at_is) ∙ free
 
-    pub put_entry : IsPutAs ask display put w now rows told at reply → (works : List Work) → works ≡ history ++ whole_of ask rest ∷ [] → (sum : ℕ) → sum ≡ bytes + rest.cost
+    pub put_entry : IsPutAs ask display put w now rows told at reply → after ≡ faults → (works : List Work) → works ≡ history ++ whole_of ask rest ∷ [] → (sum : ℕ) → sum ≡ bytes + rest.cost
         → entry_to (record { world = now; history = works; bytes = sum; rows = told; faults = after })
-    put_entry is works grown sum summed =
+    put_entry is spared works grown sum summed =
         Entered free_here
         (subst (λ n. IsAnswer (accepted_answer (Tree (displayed (then w put) ask put.collection display put.rec)) n true) reply) at_is is.said)
-        (record { world = is.world; history = grown; bytes = summed; rows = is.rows; untold = untold; later = later })
+        (record { world = is.world; history = grown; bytes = summed; rows = is.rows; untold = untold; faults = spared })
 
     pub not_put_entry : IsNotPut put w now rows told faults after at reply → (works : List Work) → works ≡ history
         → entry_to (record { world = now; history = works; bytes = bytes; rows = told; faults = after })
     not_put_entry is works same =
-        let stays : IsAsBefore before (record { world = now; history = works; bytes = bytes; rows = told; faults = after }) =
-        record { world = is.world; history = same; bytes = refl; rows = is.rows; untold = untold; later = later } in
+        let stays : IsUnchanged before (record { world = now; history = works; bytes = bytes; rows = told; faults = after }) =
+        record { world = is.world; history = same; bytes = refl; rows = is.rows; untold = untold } in
         elim is.said [
-          | inl wanting ↦ Wanting (subst (λ n. IsNoMemory n reply) at_is wanting) stays
-          | inr failed ↦ Unkept free_here failed.2 failed.1 (subst (λ n. IsAnswer (unkept_answer n) reply) at_is failed.0) stays
+          | inl wanting ↦ Wanting (subst (λ n. IsNoMemory n reply) at_is wanting.0) (record { rest = stays; faults = wanting.1 })
+          | inr failed ↦ Unkept free_here failed.2 (subst (λ n. IsAnswer (unkept_answer n) reply) at_is failed.0)
+              (record { rest = stays; later = later; rose = failed.1 })
         ]
 
     -- where the history has room only a row that stands keeps the keeper quiet

@@ -1,6 +1,6 @@
 -- Pages of a sound world, and the trees of their records.
 use Rattle.std.proofs.Common.{◌≡◌, ◌∙◌, ℕ, zero, suc, ◌+◌, ◌<◌, ◌≤◌, Bool, true, false, cond, List, [], ◌∷◌, ◌++◌, Option, Some, None, Ok, Err, IfSome, ap, arith, get_or, length, map, refl, subst, sym, take, true≢false}
-use Rattle.std.specs.Prelude.{◌==◌, Result, filter_map, min}
+use Rattle.std.specs.Prelude.{◌==◌, ◌≢◌, IfOk, Result, filter_map, min}
 use Rattle.std.specs.List.{cons_option, sum_by}
 use Rattle.std.specs.Option.{option_map_or}
 use Rattle.std.specs.Str.{bytes_eq}
@@ -28,14 +28,16 @@ use Rattle.pocket_read.specs.Filtering.{client_of}
 use Rattle.pocket_read.specs.Pages.{Search, is_wanted, matched, page_of, page_size, search_of, searched}
 use Rattle.pocket_read.specs.Sorting.{in_order, insert_by, key_of, sorted_ids, stands_before}
 use Rattle.pocket_read.specs.declared.faults.ReadFault.{ReadFault}
-use Rattle.pocket_read.specs.declared.faults.ReadFault.TheVariants.{Denied}
+use Rattle.pocket_read.specs.declared.faults.ReadFault.TheVariants.{Denied, Memory}
 use Rattle.pocket_read.specs.declared.page.Page.{Page}
 use Rattle.pocket_api.specs.Refusals.{because}
 use Rattle.pocket_api.specs.declared.call.ListQuery.{ListQuery}
+use Rattle.pocket_api.specs.declared.reply.Reply.{Reply}
 use Rattle.pocket_api.specs.declared.why.Why.TheVariants as why
-use Rattle.pocket_core.specs.Lists.{IsSmall, list_outcome, listed_outcome, rec_trees}
+use Rattle.pocket_core.specs.Answers.{IsAnswer, answer_of}
+use Rattle.pocket_core.specs.Lists.{IsSmall, list_outcome, listed_outcome, page_or_refusal, read_why, rec_trees, shown_page}
 use Rattle.pocket_core.specs.Outcomes.{Outcome}
-use Rattle.pocket_core.specs.Showing.{displayed}
+use Rattle.pocket_core.specs.Showing.{display_of, displayed, shown_of}
 use Rattle.pocket_core.specs.declared.showing.Display.{Display}
 
 module _ (w : World) (ask : Ask) (c : Collection) (display : Display) where
@@ -129,3 +131,11 @@ module _ (w : World) (ask : Ask) (name : List ℕ) (query : ListQuery) where
   pub list_without : collection_named (collections_of w) name ≡ None → list_outcome w ask name query ≡ Err (because why.NoCollection)
   unfolding list_outcome
   list_without e = ap outcome_in e
+
+-- a list that is refused, but for want of memory, for which no reply is made
+pub listed_refused : {E : Type 0} (w : World) (ask : Ask) (query : ListQuery) (c : Collection) (f : ReadFault) (at : ℕ) (result : Result Reply E)
+    → (f ≢ Memory → page_of w ask c query ≡ Err f) → IfOk result (λ _. f ≢ Memory) → IfOk result (IsAnswer (answer_of at (Err (because (read_why f)))))
+    → IfOk result (IsAnswer (answer_of at (listed_outcome w ask query c)))
+listed_refused w ask query c f at (Ok reply) page known said =
+    subst (λ p. IsAnswer (answer_of at (page_or_refusal p >>= shown_page w ask c (display_of (shown_of query)))) reply) (sym (page known)) said
+listed_refused w ask query c f at (Err e) page known said = tt

@@ -1,4 +1,4 @@
--- The statuses of refusals: the keeper's faults alone have 500, want of memory alone 507, and no answer has 500.
+-- The statuses of refusals: the keeper's faults alone have 500, and no answer has it.
 use Rattle.std.proofs.Common.{◌≡◌, ◌∙◌, ℕ, ◌≤◌, Bool, true, false, List, Option, Some, None, Result, Ok, Err, ap, arith, length, refl, sym}
 use Rattle.std.specs.Prelude.{◌≢◌, ◌&&◌, IfErr}
 use Rattle.std.proofs.lemmas.Bool.{false≢true}
@@ -78,20 +78,6 @@ keeper_alone_is_500 cause e = by (grade cause)
     by (Keeper same) = same
     by (Full other) = absurd (omega (arith, e, other))
     by (Wanting same) = let other : 507 ≡ 500 = sym (ap status_of same) ∙ e in absurd (omega (arith, other))
-
--- 507 is the status of want of memory alone
-pub wanting_alone_is_507 : (cause : Why) → status_of cause ≡ 507 → cause ≡ why.Memory
-wanting_alone_is_507 cause e = by (grade cause)
-  where
-    by : Grade cause → cause ≡ why.Memory
-    by (Low low) = absurd (omega (arith, e, low))
-    by (Keeper same) = let other : 500 ≡ 507 = sym (ap status_of same) ∙ e in absurd (omega (arith, other))
-    by (Full other) = absurd (omega (arith, e, other))
-    by (Wanting same) = same
-
--- any other cause can be told in a reply
-pub other_than_wanting : (cause : Why) → cause ≢ why.Memory → status_of cause ≢ 507
-other_than_wanting cause other e = other (wanting_alone_is_507 cause e)
 
 other_than_keeper : (cause : Why) → cause ≢ why.KeeperFault → status_of cause ≢ 500
 other_than_keeper cause other e = other (keeper_alone_is_500 cause e)
@@ -215,19 +201,21 @@ no_answer_is_500 opening history work e =
     answered_other (length history) (outcome (tally_of history) (after opening history) work)
     (outcome_other (tally_of history) (after opening history) work) e
 
--- so a reply that is its answer owes nothing to the count of the keeper's faults, but that it didn't fall
-pub answer_counts : (opening : MachineState) (history : List Work) (work : Work) (reply : Reply) (before now : ℕ) → before ≤ now
+-- so a reply that is its answer is counted where the keeper's count stays
+pub answer_counts : (opening : MachineState) (history : List Work) (work : Work) (reply : Reply) (before now : ℕ) → now ≡ before
     → IsAnswer (answer opening history work) reply → IsCounted before now reply
-answer_counts opening history work reply before now later said = record {
-  later = later;
+answer_counts opening history work reply before now same said = record {
+  later = omega (arith, same);
   failed = λ e. absurd (no_answer_is_500 opening history work (sym said.status ∙ e));
+  told = λ rose. absurd (omega (arith, same, rose));
 }
 
--- nor does one that tells of want of memory
-pub wanting_counts : (place : ℕ) (reply : Reply) (before now : ℕ) → before ≤ now → IsNoMemory place reply → IsCounted before now reply
-wanting_counts place reply before now later wanting = record {
-  later = later;
+-- and so is one that tells of want of memory
+pub wanting_counts : (place : ℕ) (reply : Reply) (before now : ℕ) → now ≡ before → IsNoMemory place reply → IsCounted before now reply
+wanting_counts place reply before now same wanting = record {
+  later = omega (arith, same);
   failed = λ e. let other : 507 ≡ 500 = sym wanting.status ∙ e in absurd (omega (arith, other));
+  told = λ rose. absurd (omega (arith, same, rose));
 }
 
 -- no answer that enters its work says that it is refused

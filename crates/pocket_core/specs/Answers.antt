@@ -1,12 +1,11 @@
 -- What the abstract machine answers, and what it becomes.
 use Rattle.std.specs.Prelude.{◌≡◌, ◌⊎◌, ℕ, ◌+◌, nat_le, nat_lt, Bool, true, false, ◌&&◌, ◌||◌, List, [], ◌∷◌, ◌++◌, fold, length, Option, Some, None, Ok, Err, IsTrue}
 use Rattle.pocket_types.specs.Chains.{◌>>=◌, refuse}
-use Rattle.pocket_types.specs.Json.{printed}
 use Rattle.pocket_types.specs.declared.json.Jv.{Jv}
 use Rattle.pocket_types.specs.declared.requests.Ask.{Ask}
 use Rattle.pocket_ops.specs.Lengths.{held}
 use Rattle.pocket_api.specs.Asks.{bare_ask}
-use Rattle.pocket_api.specs.Refusals.{Refusal, because, refusal_jv}
+use Rattle.pocket_api.specs.Refusals.{Refusal, because, body_of, refusal_jv}
 use Rattle.pocket_core.specs.Changing.{create_outcome, update_outcome}
 use Rattle.pocket_core.specs.Lists.{list_outcome}
 use Rattle.pocket_core.specs.Outcomes.{Body, Empty, Enters, Outcome, Shows, Tally, Tree, is_entered, state_after}
@@ -104,15 +103,15 @@ answer opening history work = answer_of (length history) (outcome (tally_of hist
 
 -- ---- replies
 
--- the body that a reply carries
-abbrev pub body_of : Option Jv → ReplyBody
-body_of None = reply_body.Empty
-body_of (Some tree) = reply_body.Made (printed tree)
+-- the body that a reply with this status carries
+abbrev pub carried : ℕ → Option Jv → ReplyBody
+carried status None = reply_body.Empty
+carried status (Some tree) = body_of status tree
 
 -- the reply is that answer
 pub record IsAnswer (a : Answer) (reply : Reply) : Type 0 where
   pub status : reply.status ≡ a.status
-  pub body : reply.body ≡ body_of a.body
+  pub body : reply.body ≡ carried a.status a.body
   pub why : reply.why ≡ a.why
   pub at : reply.at ≡ a.at
 

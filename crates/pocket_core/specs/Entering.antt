@@ -1,5 +1,5 @@
 -- What a call finds, what it answers, and what it leaves.
-use Rattle.std.specs.Prelude.{◌≡◌, ◌⊎◌, ◌≤◌, ℕ, ◌+◌, true, false, List, [], ◌∷◌, ◌++◌, length, Option, Err, IsTrue, if◌then◌else◌}
+use Rattle.std.specs.Prelude.{◌≡◌, ◌⊎◌, ◌<◌, ◌≤◌, ℕ, ◌+◌, true, false, List, [], ◌∷◌, ◌++◌, length, Option, Err, IsTrue, if◌then◌else◌}
 use Rattle.pocket_types.specs.Causes.{Rose, StaysUntold}
 use Rattle.pocket_types.specs.declared.requests.Ask.{Ask}
 use Rattle.pocket_types.specs.declared.world.World.{World}
@@ -42,10 +42,11 @@ abbrev pub IsReply : MachineState → List Work → Work → Reply → Type 0
 IsReply opening history work reply =
     IsAnswer (answer opening history work) reply ⊎ (IsNoMemory (length history) reply ⊎ IsUnkept opening history work reply)
 
--- the count of the keeper's faults didn't fall, and rose where the reply is 500
+-- the count of the keeper's faults didn't fall, and rose exactly where the reply is 500; a count at its end stays there
 pub record IsCounted (before now : ℕ) (reply : Reply) : Type 0 where
   pub later : before ≤ now
   pub failed : reply.status ≡ 500 → Rose before now
+  pub told : before < now → reply.status ≡ 500
 
 -- ---- what is left
 
@@ -69,14 +70,24 @@ pub record IsStandingOf (opening : MachineState) (old : Standing) (s : MachineSt
   pub within : old.bytes ≤ 268435456
   pub rows : AreRowsOf old.rows s
 
--- all is as before, though the keeper may have been asked
-pub record IsAsBefore (old new : Standing) : Type 0 where
+-- all but the keeper's count is as before, though the keeper may have been asked
+pub record IsUnchanged (old new : Standing) : Type 0 where
   pub world : new.world ≡ old.world
   pub history : new.history ≡ old.history
   pub bytes : new.bytes ≡ old.bytes
   pub rows : AreAsBefore old.rows new.rows
   pub untold : StaysUntold old.rows new.rows
+
+-- and so is the count
+pub record IsAsBefore (old new : Standing) : Type 0 where
+  pub rest : IsUnchanged old new
+  pub faults : new.faults ≡ old.faults
+
+-- the keeper failed, so its count rose
+pub record IsUndone (old new : Standing) : Type 0 where
+  pub rest : IsUnchanged old new
   pub later : old.faults ≤ new.faults
+  pub rose : Rose old.faults new.faults
 
 -- the rows with that of a record, which is committed where its text isn't there already
 abbrev pub rows_with_put : World → Put → List KeptRow → List KeptRow
@@ -90,7 +101,7 @@ pub record IsEntered (work : Work) (put : Put) (old new : Standing) : Type 0 whe
   pub bytes : new.bytes ≡ old.bytes + work.cost
   pub rows : IfBothTold old.rows new.rows (λ before now. now ≡ rows_with_put old.world put before)
   pub untold : StaysUntold old.rows new.rows
-  pub later : old.faults ≤ new.faults
+  pub faults : new.faults ≡ old.faults
 
 -- the answer to a work that puts a record: it is shown as it then stands
 abbrev pub put_answer : Ask → Display → Put → Standing → Answer
@@ -104,8 +115,8 @@ pub data Entry (ask : Ask) (work : Work) (display : Display) (put : Put) (old ne
   Full : is_full (tally_in old) work ≡ true → IsAnswer (answer_of (length old.history) (Err (full_history (tally_in old) work))) reply → IsAsBefore old new
       → Entry ask work display put old new reply
   Wanting : IsNoMemory (length old.history) reply → IsAsBefore old new → Entry ask work display put old new reply
-  Unkept : is_full (tally_in old) work ≡ false → row_stands old.world put.collection put.rec ≡ false → Rose old.faults new.faults
-      → IsAnswer (unkept_answer (length old.history)) reply → IsAsBefore old new → Entry ask work display put old new reply
+  Unkept : is_full (tally_in old) work ≡ false → row_stands old.world put.collection put.rec ≡ false
+      → IsAnswer (unkept_answer (length old.history)) reply → IsUndone old new → Entry ask work display put old new reply
 
 -- ---- whole calls
 

@@ -11,6 +11,8 @@ use Rattle.pocket_types.specs.declared.requests.Ask.{Ask}
 use Rattle.pocket_types.specs.declared.world.World.{World}
 use Rattle.pocket_keeper.specs.Keeping.{AreAsBefore, IfBothTold, committed}
 use Rattle.pocket_keeper.specs.Texts.{rec_row}
+use Rattle.pocket_keeper.specs.declared.rows.KeepFault.{KeepFault}
+use Rattle.pocket_keeper.specs.declared.rows.KeepFault.TheVariants.{Failed, Memory}
 use Rattle.pocket_keeper.specs.declared.rows.KeptRow.{KeptRow}
 use Rattle.pocket_resolve.specs.Fields.{collection_named}
 use Rattle.pocket_tables.specs.Worlds.{rec_at}
@@ -74,9 +76,14 @@ pub record IsKeptAs {E : Type 0} (prepared : Result Prepared E) (old new : Optio
 abbrev pub WantsRow : {E : Type 0} → Result Prepared E → Type 0
 WantsRow prepared = (made : Prepared) × (prepared ≡ Ok made) × IsSome made.row
 
+-- what is said where a row isn't kept: that the keeper failed exactly where it did, else that memory is wanting
+abbrev pub SaysUnkept : KeepFault → ℕ → Reply → Type 0
+SaysUnkept Failed at reply = IsAnswer (unkept_answer at) reply
+SaysUnkept Memory at reply = IsNoMemory at reply
+
 -- nothing is kept: memory was wanting, or a row had to be committed and the keeper failed
 pub record IsNotKept {E : Type 0} (prepared : Result Prepared E) (old new : Option (List KeptRow)) (before now at : ℕ) (reply : Reply) : Type 0 where
-  pub said : IsNoMemory at reply ⊎ (IsAnswer (unkept_answer at) reply × Rose before now × WantsRow prepared)
+  pub said : (IsNoMemory at reply × (now ≡ before)) ⊎ (IsAnswer (unkept_answer at) reply × Rose before now × WantsRow prepared)
   pub rows : AreAsBefore old new
 
 -- ---- putting
@@ -90,5 +97,6 @@ pub record IsPutAs (ask : Ask) (display : Display) (put : Put) (w now : World) (
 -- no record was put: memory was wanting, or a row had to be committed and the keeper failed
 pub record IsNotPut (put : Put) (w now : World) (old new : Option (List KeptRow)) (before after at : ℕ) (reply : Reply) : Type 0 where
   pub world : now ≡ w
-  pub said : IsNoMemory at reply ⊎ (IsAnswer (unkept_answer at) reply × Rose before after × (row_stands w put.collection put.rec ≡ false))
+  pub said : (IsNoMemory at reply × (after ≡ before))
+      ⊎ (IsAnswer (unkept_answer at) reply × Rose before after × (row_stands w put.collection put.rec ≡ false))
   pub rows : AreAsBefore old new

@@ -43,7 +43,7 @@ fn change_why(fault: ChangeFault) -> Why
 }
 
 /// The tree of a body, where there is one.
-fn tree_of(body: &Option<Body>) -> Option<&Jv>
+fn body_tree(body: &Option<Body>) -> Option<&Jv>
     ensures tree { option_copied result ≡ body.now }
     ensures profile { IfSome result (λ tree. IsProfiled tree.now) }
 {
@@ -90,7 +90,7 @@ pub(crate) fn plan_creation<L: Ledger>(
         Ok(name) => name,
         Err(why) => return Err(why),
     };
-    let body = tree_of(body);
+    let body = body_tree(body);
     match plan_create(alloc, tables, rules, ask, &name, body, words, steps) {
         Ok(delta) => Ok(delta),
         Err(fault) => Err(change_why(fault)),
@@ -146,7 +146,7 @@ pub(crate) fn plan_revision<L: Ledger>(
         Ok(name) => name,
         Err(why) => return Err(why),
     };
-    let body = tree_of(body);
+    let body = body_tree(body);
     match plan_of_id(alloc, tables, rules, ask, &name, &target.id, body, steps) {
         Ok(delta) => Ok(delta),
         Err(fault) => Err(change_why(fault)),

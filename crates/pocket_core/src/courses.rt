@@ -45,7 +45,6 @@ fn replies(reply: Result<Reply, AllocError>) -> Result<Course, AllocError>
 }
 
 /// The course of a change that isn't made for this cause.
-#[tactic(auto, using(crate::proofs::StatusLemmas::wanting_alone_is_507))]
 fn refused(alloc: Global, why: Why, at: u64) -> Result<Course, AllocError>
     ensures { IfOk result (IsRefusedCourse at why) }
 {

@@ -5,7 +5,7 @@ ghost use Rattle.std.specs.Option.{option_copied, option_map_or};
 ghost use Rattle.std.specs.Str.{bytes_eq};
 ghost use Rattle.pocket_types.specs.Causes.{StaysUntold};
 ghost use Rattle.pocket_types.specs.Within.{collections_of};
-ghost use Rattle.pocket_keeper.specs.Keeping.{AreAsBefore, HasKeepCause, IfBothTold, committed};
+ghost use Rattle.pocket_keeper.specs.Keeping.{AreAsBefore, HasKeepCause, IfBothTold, committed, counted};
 ghost use Rattle.pocket_keeper.specs.Texts.{rec_row};
 ghost use Rattle.pocket_resolve.specs.Fields.{collection_named};
 ghost use Rattle.pocket_tables.specs.Worlds.{IsTabled};
@@ -16,17 +16,17 @@ ghost use Rattle.pocket_core.specs.Answers.{IsAnswer, accepted_answer, answer_of
 ghost use Rattle.pocket_core.specs.Callers.{whole_of};
 ghost use Rattle.pocket_core.specs.Changing.{Put};
 ghost use Rattle.pocket_core.specs.Courses.{IsPlanned};
-ghost use Rattle.pocket_core.specs.Entering.{Entry, unkept_answer};
+ghost use Rattle.pocket_core.specs.Entering.{Entry};
 ghost use Rattle.pocket_core.specs.Outcomes.{Tree};
 ghost use Rattle.pocket_core.specs.Preparing as preparing;
-ghost use Rattle.pocket_core.specs.Preparing.{HasNoPlace, IsKeptAs, IsNotKept, IsNotPut, IsPrepared, IsPutAs, LeadsBack, WantsRow};
+ghost use Rattle.pocket_core.specs.Preparing.{HasNoPlace, IsKeptAs, IsNotKept, IsNotPut, IsPrepared, IsPutAs, LeadsBack, SaysUnkept, WantsRow};
 ghost use Rattle.pocket_core.specs.Showing.{displayed};
 
 use crate::callers::{Rest, put_together};
 use crate::courses::Plan;
 use crate::refusals::refuse;
 use crate::showing::{Display, display_rec};
-use crate::views::{find_collection, text_of};
+use crate::views::{find_collection, printed};
 use pocket_api::{Reply, Why, Work};
 use pocket_gate::Rules;
 use pocket_keeper::{Committer, KeepFault, KeptRow, row_of_rec};
@@ -133,7 +133,7 @@ fn show_put<L: Ledger>(
     ensures steps { steps.old ≤ steps.new }
 {
     let tree = display_rec(alloc, tables, rules, ask, collection, display, rec, steps)?;
-    Ok(Reply::shown(text_of(alloc, tree)?, at))
+    Ok(Reply::shown(printed(alloc, tree)?, at))
 }
 
 /// What is said of a record that was put, and its row.
@@ -205,6 +205,7 @@ fn commit_row<K: Committer>(alloc: Global, keeper: &mut K, row: KeptRow) -> Resu
     ensures as_before { OnErr result (AreAsBefore (K.rows keeper.old) (K.rows keeper.new)) }
     ensures untold { StaysUntold (K.rows keeper.old) (K.rows keeper.new) }
     ensures cause { HasKeepCause (K.faults keeper.old) (K.faults keeper.new) result }
+    ensures counts { K.faults keeper.new ≡ counted (K.faults keeper.old) result }
 {
     let mut puts = Seq::new(alloc);
     if puts.push(row).is_err() {
@@ -217,12 +218,12 @@ fn commit_row<K: Committer>(alloc: Global, keeper: &mut K, row: KeptRow) -> Resu
     kept
 }
 
-/// The reply where a row isn't kept.
-fn refuse_unkept(alloc: Global, fault: KeepFault, at: u64) -> Reply
-    ensures { IsNoMemory at result ⊎ (IsAnswer (unkept_answer at) result × (fault ≡ KeepFault.Failed)) }
+/// The reply where a row isn't kept: 500 exactly where the commit failed.
+fn refuse_unkept(fault: KeepFault, at: u64) -> Reply
+    ensures { SaysUnkept fault at result }
 {
     match fault {
-        KeepFault::Failed => or_no_memory(refuse(alloc, Why::KeeperFault, at), at),
+        KeepFault::Failed => Reply::not_kept(at),
         KeepFault::Memory => Reply::no_memory(at),
     }
 }
@@ -237,6 +238,7 @@ fn keep<K: Committer>(
     ensures kept { IfOk result (IsKeptAs prepared (K.rows keeper.old) (K.rows keeper.new)) }
     ensures refused { IfErr result (IsNotKept prepared (K.rows keeper.old) (K.rows keeper.new) (K.faults keeper.old) (K.faults keeper.new) at) }
     ensures untold { StaysUntold (K.rows keeper.old) (K.rows keeper.new) }
+    ensures spared { OnOk result (K.faults keeper.new ≡ K.faults keeper.old) }
     ensures later { K.faults keeper.old ≤ K.faults keeper.new }
     ensures unasked { WantsRow prepared ⊎ (keeper.new ≡ keeper.old) }
 {
@@ -251,7 +253,7 @@ fn keep<K: Committer>(
         Ok(()) => Ok(reply),
         Err(fault) => {
             drop(reply);
-            Err(refuse_unkept(alloc, fault, at))
+            Err(refuse_unkept(fault, at))
         }
     }
 }
@@ -277,6 +279,7 @@ fn put_rec<K: Committer, L: Ledger>(
     ensures refused { IfErr result (λ reply. (put : Put) → IsPlanned tables.old put plan.delta
         → IsNotPut put tables.old.world tables.new.world (K.rows keeper.old) (K.rows keeper.new) (K.faults keeper.old) (K.faults keeper.new) at reply) }
     ensures untold { StaysUntold (K.rows keeper.old) (K.rows keeper.new) }
+    ensures spared { OnOk result (K.faults keeper.new ≡ K.faults keeper.old) }
     ensures later { K.faults keeper.old ≤ K.faults keeper.new }
     ensures unasked { (put : Put) → IsPlanned tables.old put plan.delta → row_stands tables.old.world put.collection put.rec ≡ true → keeper.new ≡ keeper.old }
     ensures steps { steps.old ≤ steps.new }

@@ -1,5 +1,5 @@
 // Pages of lists by rule.
-ghost use Rattle.std.specs.Prelude.{◌≡◌, ◌≤◌, ◌++◌, ◌∷◌, [], Err, IfOk, IfSome, Some, map};
+ghost use Rattle.std.specs.Prelude.{◌≡◌, ◌≢◌, ◌≤◌, ◌++◌, ◌∷◌, [], Err, IfOk, IfSome, Some, map};
 ghost use Rattle.pocket_types.specs.Maps.{member_of};
 ghost use Rattle.pocket_types.specs.Within.{collections_of};
 ghost use Rattle.pocket_resolve.specs.Fields.{collection_named};
@@ -13,7 +13,7 @@ ghost use Rattle.pocket_core.specs.Showing.{display_of, displayed, shown_of};
 
 use crate::refusals::refuse;
 use crate::showing::{Display, display_of, display_rec};
-use crate::views::{find_collection, text_of};
+use crate::views::{find_collection, printed};
 use pocket_api::{ListQuery, Reply, Why};
 use pocket_gate::{Rules, Verdict};
 use pocket_ops::push_member;
@@ -37,7 +37,8 @@ pub(crate) fn verdict_why(verdict: Verdict) -> Why
 
 /// The refusal of a list.
 fn refuse_list(alloc: Global, fault: ReadFault, at: u64) -> Result<Reply, AllocError>
-    ensures { IfOk result (IsAnswer (answer_of at (Err (because (read_why fault))))) }
+    ensures reply { IfOk result (IsAnswer (answer_of at (Err (because (read_why fault))))) }
+    ensures known { IfOk result (λ _. fault ≢ ReadFault.Memory) }
 {
     match fault {
         ReadFault::Denied(verdict) => refuse(alloc, verdict_why(verdict), at),
@@ -203,7 +204,7 @@ fn show_page<L: Ledger>(
     let display = display_of(alloc, query.expand.as_ref(), query.fields.as_ref())?;
     let tree = page_tree(alloc, tables, rules, ask, collection, &display, page, steps);
     drop(display);
-    Ok(Reply::shown(text_of(alloc, tree?)?, at))
+    Ok(Reply::shown(printed(alloc, tree?)?, at))
 }
 
 /// A list of a collection.

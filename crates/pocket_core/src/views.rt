@@ -52,7 +52,7 @@ fn find_rec<'a, L: Ledger>(
 }
 
 /// The compact text of a tree.
-pub(crate) fn text_of(alloc: Global, tree: Jv) -> Result<Text, AllocError>
+pub(crate) fn printed(alloc: Global, tree: Jv) -> Result<Text, AllocError>
     ensures { IfOk result (λ text. text ≡ printed tree) }
 {
     let text = tree.print(alloc);
@@ -78,7 +78,7 @@ fn show<L: Ledger>(
     ensures steps { steps.old ≤ steps.new }
 {
     let tree = shown_rec(alloc, tables, rules, ask, collection, shown, rec, steps)?;
-    Ok(Reply::shown(text_of(alloc, tree)?, at))
+    Ok(Reply::shown(printed(alloc, tree)?, at))
 }
 
 /// A view of a record, by what its rule says.

@@ -23,8 +23,8 @@ pub returns-in-Ok-plan_create-clause-plan : goal.returns-in-Ok-plan_create-claus
 returns-in-Ok-plan_create-clause-plan g c =
     let w = c.args.tables.now.world in
     let body = c.args.body.now in
-    let tree = c.tree_of-body.ensures.tree in
-    let profile = subst (λ b. IfSome b IsProfiled) tree (profile_of c.tree_of-body.result c.tree_of-body.ensures.profile) in
+    let tree = c.body_tree-body.ensures.tree in
+    let profile = subst (λ b. IfSome b IsProfiled) tree (profile_of c.body_tree-body.result c.body_tree-body.ensures.profile) in
     let gives = subst (λ b. IfSome (collection_at w c.in-Ok.name) (λ d. Gives (Ok c.in-Ok-plan_create.delta) (creation w c.args.ask.now d b c.args.words))) tree c.in-Ok-plan_create.ensures.delta in
     creation_planned w c.args.ask.now c.args.collection.now body c.args.words c.in-Ok.name c.in-Ok.ensures c.created_records_may_be_put.ensures c.requires.sound c.millis-millis.ensures.range profile c.plan_create.new.tables
     c.in-Ok-plan_create.delta c.plan_create.ensures.world gives c.in-Ok-plan_create.ensures.ready
@@ -33,7 +33,7 @@ pub returns-clause-plan : goal.returns-clause-plan
 returns-clause-plan g c =
     let w = c.args.tables.now.world in
     let body = c.args.body.now in
-    let tree = c.tree_of-body.ensures.tree in
+    let tree = c.body_tree-body.ensures.tree in
     let gives = subst (λ b. IfSome (collection_at w c.in-Ok.name) (λ d. Gives (Err c.in-Err-plan_create.fault) (creation w c.args.ask.now d b c.args.words))) tree c.in-Err-plan_create.ensures.delta in
     λ known.
     subst (λ cause. cause ≢ why.Memory → created_in w c.args.ask.now c.args.collection.now body c.args.words ≡ Err (because cause)) (sym c.change_why.ensures)

@@ -23,8 +23,8 @@ pub returns-in-Ok-plan_of_id-clause-plan : goal.returns-in-Ok-plan_of_id-clause-
 returns-in-Ok-plan_of_id-clause-plan g c =
     let w = c.args.tables.now.world in
     let body = c.args.body.now in
-    let tree = c.tree_of-body.ensures.tree in
-    let profile = subst (λ b. IfSome b IsProfiled) tree (profile_of c.tree_of-body.result c.tree_of-body.ensures.profile) in
+    let tree = c.body_tree-body.ensures.tree in
+    let profile = subst (λ b. IfSome b IsProfiled) tree (profile_of c.body_tree-body.result c.body_tree-body.ensures.profile) in
     let gives = subst (λ b. IfSome (collection_at w c.in-Ok.name) (λ d. Gives (Ok c.in-Ok-plan_of_id.delta) (update w c.args.ask.now d c.args.target.now.id b))) tree c.in-Ok-plan_of_id.ensures.delta in
     update_planned w c.args.ask.now c.args.target.now body c.in-Ok.name c.in-Ok.ensures c.updated_records_may_be_put.ensures c.requires.sound c.millis-millis.ensures.range profile c.plan_of_id.new.tables
     c.in-Ok-plan_of_id.delta c.plan_of_id.ensures.world gives c.in-Ok-plan_of_id.ensures.ready
@@ -33,7 +33,7 @@ pub returns-clause-plan : goal.returns-clause-plan
 returns-clause-plan g c =
     let w = c.args.tables.now.world in
     let body = c.args.body.now in
-    let tree = c.tree_of-body.ensures.tree in
+    let tree = c.body_tree-body.ensures.tree in
     let gives = subst (λ b. IfSome (collection_at w c.in-Ok.name) (λ d. Gives (Err c.in-Err-plan_of_id.fault) (update w c.args.ask.now d c.args.target.now.id b))) tree c.in-Err-plan_of_id.ensures.delta in
     λ known.
     subst (λ cause. cause ≢ why.Memory → updated_in w c.args.ask.now c.args.target.now body ≡ Err (because cause)) (sym c.change_why.ensures)

@@ -14,7 +14,7 @@ returns-in-Ok-clause-entry g c = λ put planned.
     put_entry c.args.ask c.args.rest c.args.plan.display put c.args.tables.now.world c.args.journal.now.items c.args.costs.now
     (g.K.Committer.rows c.args.keeper.now) (g.K.Committer.faults c.args.keeper.now) c.args.at c.requires.at c.in-Ok.reply c.requires.room
     c.put_rec.new.tables.world (g.K.Committer.rows c.put_rec.new.keeper) (g.K.Committer.faults c.put_rec.new.keeper) c.put_rec.ensures.untold c.put_rec.ensures.later
-    (c.in-Ok.ensures.put put planned) c.enter_work.new.journal.items
+    (c.in-Ok.ensures.put put planned) c.in-Ok.ensures.spared c.enter_work.new.journal.items
     (c.enter_work.ensures.history ∙ ap (λ work. c.args.journal.now.items ++ work ∷ []) c.put_together.ensures) c.enter_work.new.costs
     (c.enter_work.ensures.bytes ∙ ap (λ work. c.args.costs.now + work.cost) c.put_together.ensures)
 

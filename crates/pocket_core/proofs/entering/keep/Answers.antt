@@ -1,6 +1,6 @@
-use Rattle.std.proofs.Common.{inl, inr, ap, refl}
+use Rattle.std.proofs.Common.{inl, ap, refl}
 use Rattle.std.specs.Prelude.{is_some}
-use Rattle.pocket_core.proofs.KeepLemmas.{rows_alone, rows_committed}
+use Rattle.pocket_core.proofs.KeepLemmas.{not_kept, rows_alone, rows_committed}
 use Rattle.pocket_core.proofs.entering.keep.Goals as goal
 
 pub returns-in_default-row-clause-kept : goal.returns-in_default-row-clause-kept
@@ -25,13 +25,10 @@ pub returns-in-Ok-commit_row-clause-unasked : goal.returns-in-Ok-commit_row-clau
 returns-in-Ok-commit_row-clause-unasked g c = inl (c.in-Ok.prepared, c.in-Ok.is, ap is_some c.in-Some.is)
 
 pub returns-in-Err-clause-refused : goal.returns-in-Err-clause-refused
-returns-in-Err-clause-refused g c = record {
-  said = elim c.refuse_unkept.ensures [
-    | inl wanting ↦ inl wanting
-    | inr failed ↦ inr (failed.0, c.in-Err.ensures.cause.failed failed.1, (c.in-Ok.prepared, c.in-Ok.is, ap is_some c.in-Some.is))
-  ];
-  rows = c.in-Err.ensures.as_before;
-}
+returns-in-Err-clause-refused g c =
+    not_kept c.args.prepared (g.K.Committer.rows c.args.keeper.now) (g.K.Committer.rows c.commit_row.new.keeper) (g.K.Committer.faults c.args.keeper.now)
+    (g.K.Committer.faults c.commit_row.new.keeper) c.args.at c.in-Err.fault c.refuse_unkept.result c.in-Err.ensures.cause.failed c.in-Err.ensures.counts
+    (c.in-Ok.prepared, c.in-Ok.is, ap is_some c.in-Some.is) c.in-Err.ensures.as_before c.refuse_unkept.ensures
 
 pub returns-in-Err-clause-unasked : goal.returns-in-Err-clause-unasked
 returns-in-Err-clause-unasked g c = inl (c.in-Ok.prepared, c.in-Ok.is, ap is_some c.in-Some.is)
