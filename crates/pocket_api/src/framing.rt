@@ -43,8 +43,8 @@ fn not_kept_reply(close: bool) -> &'static [u8]
     if close { REPLY_500_CLOSE } else { REPLY_500 }
 }
 
-/// The bytes of a reply whose text is fixed, for want of memory or where the store failed: the same that `reply_bytes` makes, without
-/// memory.
+/// The bytes of a reply whose text is fixed, for want of memory or where the store failed. They are the same that
+/// `reply_bytes` makes, and take no memory.
 pub fn fixed_bytes(reply: &Reply, close: bool) -> Option<&'static [u8]>
     ensures { MatchOption result (is_fixed reply.now.body ≡ false) (λ bytes. (is_fixed reply.now.body ≡ true) × (bytes.now ≡ reply_bytes reply.now close)) }
 {

@@ -74,7 +74,8 @@ fn check<L: Ledger>(
     }
 }
 
-/// Whether nothing is wrong with a record that stands in the tables; of one that a request creates first whether the create rule admits it.
+/// Whether nothing is wrong with a record that stands in the tables; of one that a request creates, first whether the
+/// create rule admits it.
 fn judge<L: Ledger>(
     alloc: Global,
     tables: &Tables,

@@ -75,8 +75,8 @@ fn rewritten_in<L: Ledger>(
     }
 }
 
-/// The delta that puts a record into a collection, or why it may not be put; one that a request creates is judged by the create rule too. The
-/// tables are as before, and ready for the delta.
+/// The delta that puts a record into a collection, or why it may not be put; one that a request creates is judged by
+/// the create rule too. The tables are as before, and ready for the delta.
 fn plan_put<L: Ledger>(
     alloc: Global,
     tables: &mut Tables,

@@ -28,7 +28,8 @@ pub fn pages_are_the_list()
     ensures { PagesAreTheList }
 {}
 
-/// Nothing stands before flags, flags before numbers, and numbers before texts, whatever they are. All values stand in one order.
+/// Nothing stands before flags, flags before numbers, and numbers before texts, whatever they are. All values stand in
+/// one order.
 #[tactic(auto, using(crate::proofs::LawLemmas::kinds_are_ranked, crate::proofs::Orders::value_total))]
 pub fn values_are_ranked()
     ensures kinds { KindsAreRanked }
