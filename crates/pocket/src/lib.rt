@@ -22,7 +22,7 @@ mod service;
 mod status;
 mod words;
 
-pub use acceptor::{HostAcceptor, HostLink};
+pub use acceptor::{HostAcceptor, HostLink, Listener};
 pub use pocket_words::{Command, WordFault, read_words};
 pub use run::run_plain;
 pub use sample::sample_rows;

@@ -18,11 +18,14 @@ const VIEW: &str =
 const REPLY: &str =
     "HTTP/1.1 200 OK\r\nContent-Type: application/json\r\nContent-Length: 138\r\nConnection: close\r\n\r\n{\"collectionName\":\"notes\",\"created\":\"2024-01-01 00:00:00.000Z\",\"id\":\"note00000000001\",\"text\":\"hello\",\"updated\":\"2024-01-01 00:00:00.000Z\"}";
 
+type HostHand = Hand<
+    HostAcceptor<Option<TcpListener>>,
+    HostClock<HostRuntime>,
+    HostDice<HostRuntime>,
+>;
+
 /// One worker, which takes one connection.
-fn hands_over(
-    rt: &HostRuntime,
-    listener: TcpListener,
-) -> Result<Vec<Hand<HostAcceptor, HostClock<HostRuntime>, HostDice<HostRuntime>>>, AllocError> {
+fn hands_over(rt: &HostRuntime, listener: TcpListener) -> Result<Vec<HostHand>, AllocError> {
     let mut hands = Vec::new(rt.alloc());
     hands.push(Hand {
         acceptor: HostAcceptor {
