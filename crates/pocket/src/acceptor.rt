@@ -1,7 +1,7 @@
 // The host's connections.
 ghost use Rattle.std.specs.Prelude.{◌≡◌, ◌<◌, ◌^◌, ℕ, None, Option, IfOk, length, ⊤};
 ghost use Rattle.std.specs.Io.{ReadsAtMost, WritesAtMost};
-ghost use Rattle.std.specs.Io.KnownBytes.{ReadConsumes, WriteAppends};
+ghost use Rattle.std.specs.Io.KnownBytes.{Consumes, ReadConsumes, WriteAppends};
 ghost use Rattle.pocket_types.specs.Causes.{HasCause};
 ghost use Rattle.pocket_serve.specs.Accepting.{IsAccepted};
 ghost use Rattle.pocket.specs.Listening.{GivesWithin, faults_after, stream_of};
@@ -33,7 +33,7 @@ pub struct HostLink<S> {
 }
 
 impl<S: Read> Source for HostLink<S> {
-    ghost gives = { λ _ _ _. ⊤ };
+    ghost gives = { λ old piece new. Consumes (S.remaining old.stream) (S.remaining new.stream) piece };
 
     ghost left = { λ _. None };
 
