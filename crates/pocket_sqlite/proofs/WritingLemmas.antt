@@ -1,5 +1,6 @@
 -- What statements inside a transaction, and a commit that is refused, leave of the last commit.
 use Rattle.std.proofs.Common.{◌≡◌, ℕ, ◌+◌, ◌<◌, List, [], ◌∷◌, ◌++◌, map, take, length, get_or, Result, Ok, Err, true, false, refl, sym, ap, subst, ◌∙◌, inl, inr, IfErr, OnOk, OnErr, IsTrue}
+use Rattle.std.specs.Prelude.{is_ok}
 use Rattle.std.proofs.lemmas.List.{map-append, take_more}
 use Rattle.sqlite_value.specs.Order.{Row}
 use Rattle.sqlite.specs.declared.error.Error.{Error}
@@ -71,3 +72,10 @@ refused_commit old mid new (Err e) uncommitted goes back fails = λ clean still.
         let kept = (uncommitted.kept clean).committed (undone.was_open still) in
         ((undone.undone still).0 ∙ kept, (undone.undone still).1 ∙ kept)
     by clean still (inr (is, ended, same)) = absurd (cc (sym ended ∙ goes clean))
+
+-- what an error says, it says under another name too
+pub err_mapped : {T E F : Type 0} (A : Type 0) (r : Result T E) (s : Result T F) → is_ok s ≡ is_ok r → OnErr r A → OnErr s A
+err_mapped A (Ok x) (Ok y) same said = tt
+err_mapped A (Ok x) (Err f) same said = absurd (cc same)
+err_mapped A (Err e) (Ok y) same said = tt
+err_mapped A (Err e) (Err f) same said = said

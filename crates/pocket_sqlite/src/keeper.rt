@@ -1,7 +1,12 @@
-ghost use Rattle.std.specs.Prelude.{◌≡◌, ◌≢◌, false, None, IfOk, IfErr};
+ghost use Rattle.std.specs.Prelude.{◌≡◌, ◌≢◌, ◌++◌, [], List, false, None, IfOk, IfErr, OnOk, OnErr};
+ghost use Rattle.sqlite_value.specs.Order.{Row as SqlRow};
+ghost use Rattle.sqlite.specs.State.{HasCleanDisk, Shown};
+ghost use Rattle.sqlite.specs.Files.{file_state, over_files};
 ghost use Rattle.pocket_keeper.specs.Rows.{IsRising};
-ghost use Rattle.pocket_keeper.specs.Keeping.{HasKeepCause};
-ghost use Rattle.pocket_sqlite.specs.Counting.{counted};
+ghost use Rattle.pocket_keeper.specs.Keeping.{counted, HasKeepCause};
+ghost use Rattle.pocket_sqlite.specs.Reading.{AreRead};
+ghost use Rattle.pocket_sqlite.specs.Writing.{deletions, insertions, HaveBeenKept, IsAsCommitted};
+ghost use Rattle.pocket_sqlite.specs.declared.table.TheConstants.{DELETE, PUT, SELECT};
 
 use crate::opening::{OpenFault, open_fault};
 use crate::table::{keep_fault, make_table, read_rows, write_rows};
@@ -65,25 +70,31 @@ impl Committer for SqliteKeeper {
         puts: &Seq<KeptRow>,
         cuts: &Seq<Text>,
     ) -> Result<(), KeepFault>
+        // On a disk that gives back what was written.
+        ensures kept { HasCleanDisk (file_state self.new.database) → OnOk result (HaveBeenKept over_files
+            (deletions DELETE.now cuts.now ++ insertions PUT.now puts.now) self.old.database self.new.database) }
+        ensures undone { OnErr result (IsAsCommitted (file_state self.old.database) (file_state self.new.database)) }
         ensures counts { ⟦<SqliteKeeper as Committer>⟧.faults self.new ≡ counted (⟦<SqliteKeeper as Committer>⟧.faults self.old) result }
         ensures cause { HasKeepCause (⟦<SqliteKeeper as Committer>⟧.faults self.old) (⟦<SqliteKeeper as Committer>⟧.faults self.new) result }
     {
-        let written = write_rows(&mut self.database, puts.as_slice(), cuts.as_slice()).map_err(
-            keep_fault,
-        );
-        count(&mut self.faults, &written);
-        written
+        let written = write_rows(&mut self.database, puts.as_slice(), cuts.as_slice());
+        let answer = written.map_err(keep_fault);
+        count(&mut self.faults, &answer);
+        answer
     }
 }
 
 impl Keeper for SqliteKeeper {
     fn load(&mut self, alloc: Global) -> Result<Seq<KeptRow>, KeepFault>
         ensures rising { IfOk result (λ loaded. IsRising loaded) }
+        // On a disk that gives back what was written.
+        ensures read { HasCleanDisk (file_state self.new.database) → IfOk result (λ loaded. (found : List SqlRow)
+            × Shown SELECT.now [] (file_state self.old.database) (file_state self.new.database) found × AreRead found loaded) }
         ensures counts { ⟦<SqliteKeeper as Committer>⟧.faults self.new ≡ counted (⟦<SqliteKeeper as Committer>⟧.faults self.old) result }
         ensures cause { HasKeepCause (⟦<SqliteKeeper as Committer>⟧.faults self.old) (⟦<SqliteKeeper as Committer>⟧.faults self.new) result }
     {
-        let read = read_rows(alloc, &mut self.database);
-        count(&mut self.faults, &read);
-        read
+        let answer = read_rows(alloc, &mut self.database);
+        count(&mut self.faults, &answer);
+        answer
     }
 }
