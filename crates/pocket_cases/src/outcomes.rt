@@ -1,12 +1,14 @@
 // The calls that cases make, by their names.
-use crate::{calls, filters, paths, refusals, requests, rows, stores, texts, values};
+use crate::{
+    calls, filters, gate, parts, paths, refusals, requests, rows, stores, texts, truths, values,
+};
 use pocket_cases_text::{Calls, Given, Trouble, head_of};
 use std::alloc::Global;
 
-/// The calls of the lower libraries.
-pub struct LowerCalls;
+/// The calls of the libraries below the machine.
+pub struct LibraryCalls;
 
-impl Calls for LowerCalls {
+impl Calls for LibraryCalls {
     fn outcome(&self, alloc: Global, given: &Given, case: &str) -> Result<String, Trouble> {
         let (call, written) = head_of(case);
         match call {
@@ -15,13 +17,13 @@ impl Calls for LowerCalls {
             "call" => calls::call(alloc, given, written),
             "open" => stores::opened(alloc, given, written),
             "change" => stores::changed(alloc, given, written),
-            _ => outcome_of_text(alloc, given, call, given.text_of(alloc, written)?.as_str()),
+            _ => outcome_with_given(alloc, given, call, given.text_of(alloc, written)?.as_str()),
         }
     }
 }
 
-/// The outcome of a call with its text, whose names are spelled out.
-fn outcome_of_text(
+/// The outcome of a call with its text, whose names are spelled out, and with what else is given.
+fn outcome_with_given(
     alloc: Global,
     given: &Given,
     call: &str,
@@ -29,16 +31,27 @@ fn outcome_of_text(
 ) -> Result<String, Trouble> {
     match call {
         "rule" | "client" | "admin" => paths::resolved(alloc, given, call, text),
+        "record" => rows::record(alloc, given, text),
+        "commit" => stores::committed(alloc, given, text),
+        "holds" => truths::holds(alloc, given, text),
+        "may" | "sees" => gate::asked(alloc, given, call, text),
+        _ => outcome_of_text(alloc, call, text),
+    }
+}
+
+/// The outcome of a call with its text alone.
+fn outcome_of_text(alloc: Global, call: &str, text: &str) -> Result<String, Trouble> {
+    match call {
         "key" => rows::key(alloc, text),
         "names" => rows::own_names(alloc, text),
         "collection" => rows::collection(alloc, text),
-        "record" => rows::record(alloc, given, text),
+        "parts" => parts::parts(alloc, text),
         "token" => rows::token(alloc, text),
-        "commit" => stores::committed(alloc, given, text),
         "print" => stores::printed(alloc, text),
         "phrase" => requests::phrase(alloc, text),
         "why" => refusals::why(alloc, text),
         "reply" => refusals::bytes(alloc, text),
+        "fault" => texts::fault(alloc, text),
         _ => outcome_of_value(alloc, call, text),
     }
 }

@@ -37,18 +37,25 @@ fn filter_fault_of(words: &str) -> Option<Result<FilterFault, Trouble>> {
     }
 }
 
+/// The fault that is one of this name, where such a one is.
+fn named_fault(word: &str, name: Text) -> Option<ResolveFault> {
+    match word {
+        "NoCollection" => Some(ResolveFault::NoCollection(name)),
+        "NoField" => Some(ResolveFault::NoField(name)),
+        "NotRelation" => Some(ResolveFault::NotRelation(name)),
+        "HiddenField" => Some(ResolveFault::HiddenField(name)),
+        _ => None,
+    }
+}
+
 fn resolve_fault_of(alloc: Global, words: &str) -> Result<ResolveFault, Trouble> {
     let (fault, rest) = cut(words);
     match fault {
-        "NoCollection" => Ok(ResolveFault::NoCollection(Text::from_str(alloc, rest)?)),
-        "NoField" => Ok(ResolveFault::NoField(Text::from_str(alloc, rest)?)),
-        "NotRelation" => Ok(ResolveFault::NotRelation(Text::from_str(alloc, rest)?)),
-        "HiddenField" => Ok(ResolveFault::HiddenField(Text::from_str(alloc, rest)?)),
-        "BadModifier" => Ok(ResolveFault::BadModifier(number_of(rest)?)),
-        "SuperuserOnly" => Ok(ResolveFault::SuperuserOnly(number_of(rest)?)),
+        "BadModifier" => number_of(rest).map(ResolveFault::BadModifier),
+        "SuperuserOnly" => number_of(rest).map(ResolveFault::SuperuserOnly),
         "TooManySteps" => Ok(ResolveFault::TooManySteps),
         "TooManyPrefixes" => Ok(ResolveFault::TooManyPrefixes),
-        _ => Err(Trouble::Case("no such fault")),
+        _ => named_fault(fault, Text::from_str(alloc, rest)?).ok_or(Trouble::Case("no such fault")),
     }
 }
 
@@ -181,22 +188,32 @@ fn rule_why(alloc: Global, word: &str, words: &str) -> Result<Why, Trouble> {
     })
 }
 
+/// A cause with one part, where the word is one of such a cause.
+fn part_why(alloc: Global, word: &str, rest: &str) -> Option<Result<Why, Trouble>> {
+    match word {
+        "BadPath" => Some(resolve_fault_of(alloc, rest).map(Why::BadPath)),
+        "BadSort" => Some(number_of(rest).map(Why::BadSort)),
+        "BadTopic" => Some(number_of(rest).map(Why::BadTopic)),
+        "BadValue" => Some(name_of(alloc, rest).map(Why::BadValue)),
+        "Invalid" => Some(field_faults_of(alloc, rest).map(Why::Invalid)),
+        "Limit" => Some(limit_of(rest).map(Why::Limit)),
+        _ => None,
+    }
+}
+
 /// The cause that words stand for.
 fn why_of(alloc: Global, words: &str) -> Result<Why, Trouble> {
     let (word, rest) = cut(words);
+    if let Some(why) = part_why(alloc, word, rest) {
+        return why;
+    }
     match word {
         "Locked" | "RuleFalse" => rule_why(alloc, word, rest),
         "BadFilter" => filter_why(rest),
-        "BadPath" => Ok(Why::BadPath(resolve_fault_of(alloc, rest)?)),
-        "BadSort" => Ok(Why::BadSort(number_of(rest)?)),
-        "BadValue" => Ok(Why::BadValue(name_of(alloc, rest)?)),
-        "Invalid" => Ok(Why::Invalid(field_faults_of(alloc, rest)?)),
         "Required" => required_why(alloc, rest),
-        "Limit" => Ok(Why::Limit(limit_of(rest)?)),
         "Shape" => Ok(Why::Shape(Text::from_str(alloc, rest)?)),
         "BrokenRule" => broken_why(alloc, rest),
         "Referenced" => referenced_why(alloc, rest),
-        "BadTopic" => Ok(Why::BadTopic(number_of(rest)?)),
         "HistoryFull" => full_why(rest),
         _ => plain_why(word),
     }

@@ -1,6 +1,7 @@
-// Calls over texts: names, ids, moments and JSON.
+// Calls over texts: names, ids, moments, JSON, and what is said of texts that are refused.
 use crate::values::moment_text;
 use pocket_cases_text::Trouble;
+use pocket_filter::parse;
 use pocket_json::{JsonFault, read_jv};
 use pocket_types::{Id, Jv, Moment, Name, Text};
 use std::alloc::{AllocError, Global};
@@ -59,5 +60,30 @@ pub fn json(alloc: Global, bytes: &[u8]) -> Result<String, Trouble> {
         Ok(tree) => printed(alloc, &tree),
         Err(JsonFault::BadJson) => told(alloc, false),
         Err(JsonFault::Memory) => Err(Trouble::Memory),
+    }
+}
+
+/// What is said of bytes that are no tree.
+fn json_fault(alloc: Global, bytes: &[u8]) -> Result<String, AllocError> {
+    match read_jv(alloc, bytes) {
+        Ok(_) => String::from_str(alloc, "read"),
+        Err(fault) => format!(in alloc; "{fault}"),
+    }
+}
+
+/// What is said of a text that is no filter.
+fn filter_fault(alloc: Global, text: &str) -> Result<String, AllocError> {
+    match parse(alloc, text) {
+        Ok(_) => String::from_str(alloc, "read"),
+        Err(fault) => format!(in alloc; "{fault}"),
+    }
+}
+
+/// What is said of `json TEXT` or `filter TEXT`, where the text is none.
+pub fn fault(alloc: Global, text: &str) -> Result<String, Trouble> {
+    match text.split_once(' ') {
+        Some(("json", text)) => Ok(json_fault(alloc, text.as_bytes())?),
+        Some(("filter", text)) => Ok(filter_fault(alloc, text)?),
+        _ => Err(Trouble::Case("no text of JSON or of a filter")),
     }
 }

@@ -231,26 +231,32 @@ pub fn date(alloc: Global, text: &str) -> Result<String, Trouble> {
     }
 }
 
+const MACROS: [(&str, Macro); 16] = [
+    ("now", Macro::Now),
+    ("second", Macro::Second),
+    ("minute", Macro::Minute),
+    ("hour", Macro::Hour),
+    ("day", Macro::Day),
+    ("month", Macro::Month),
+    ("year", Macro::Year),
+    ("weekday", Macro::Weekday),
+    ("yesterday", Macro::Yesterday),
+    ("tomorrow", Macro::Tomorrow),
+    ("todayStart", Macro::TodayStart),
+    ("todayEnd", Macro::TodayEnd),
+    ("monthStart", Macro::MonthStart),
+    ("monthEnd", Macro::MonthEnd),
+    ("yearStart", Macro::YearStart),
+    ("yearEnd", Macro::YearEnd),
+];
+
 fn macro_of(name: &str) -> Option<Macro> {
-    match name {
-        "now" => Some(Macro::Now),
-        "second" => Some(Macro::Second),
-        "minute" => Some(Macro::Minute),
-        "hour" => Some(Macro::Hour),
-        "day" => Some(Macro::Day),
-        "month" => Some(Macro::Month),
-        "year" => Some(Macro::Year),
-        "weekday" => Some(Macro::Weekday),
-        "yesterday" => Some(Macro::Yesterday),
-        "tomorrow" => Some(Macro::Tomorrow),
-        "todayStart" => Some(Macro::TodayStart),
-        "todayEnd" => Some(Macro::TodayEnd),
-        "monthStart" => Some(Macro::MonthStart),
-        "monthEnd" => Some(Macro::MonthEnd),
-        "yearStart" => Some(Macro::YearStart),
-        "yearEnd" => Some(Macro::YearEnd),
-        _ => None,
+    for (word, which) in &MACROS {
+        if *word == name {
+            return Some(*which);
+        }
     }
+    None
 }
 
 /// The value of `MOMENT MACRO`.

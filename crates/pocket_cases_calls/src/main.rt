@@ -1,6 +1,7 @@
 //! Tries whole runs from texts: each case of a file is an input, and what has to come of a run over it.
 #![tactic(auto)]
 
+mod ends;
 mod outcomes;
 mod runs;
 

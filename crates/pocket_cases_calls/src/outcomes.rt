@@ -1,5 +1,5 @@
 // The calls that cases make, by their names.
-use crate::runs;
+use crate::{ends, runs};
 use pocket_cases_text::{Calls, Given, Trouble, head_of};
 use std::alloc::Global;
 
@@ -19,6 +19,7 @@ fn outcome_of(alloc: Global, given: &Given, call: &str, text: &str) -> Result<St
         "pipe" => runs::pipe(alloc, given, text),
         "row" => runs::bad_row(alloc, given, text),
         "sample" => runs::sample(alloc),
+        "end" => ends::told(alloc, text),
         _ => Err(Trouble::Case("no such call")),
     }
 }

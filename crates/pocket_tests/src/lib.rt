@@ -1,20 +1,18 @@
-//! What only code can say of the libraries: calls that fail, adapters over the host, clocks and dice, values that weren't read
-//! from a text, messages and laws. Cases that are text stand in `pocket_cases`.
+//! Tests of what only code can say: workers that wait for one another, connections and accepts that fail, a socket, a
+//! database file, and adapters over the host. What a text can say stands in the programs of cases.
 #![tactic(auto)]
 
 #[cfg(test)]
-mod built;
+mod adapters;
 #[cfg(test)]
-mod clocks;
+mod files;
 #[cfg(test)]
-mod filters;
+mod held;
 #[cfg(test)]
-mod keeper;
+mod host;
 #[cfg(test)]
-mod machine;
+mod served;
 #[cfg(test)]
-mod messages;
+mod watched;
 #[cfg(test)]
-mod rows;
-#[cfg(test)]
-mod wire;
+mod workers;

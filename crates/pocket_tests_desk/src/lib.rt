@@ -1,5 +1,0 @@
-//! Tests of the desk: threads call a machine that counts.
-#![tactic(auto)]
-
-#[cfg(test)]
-mod desk;
