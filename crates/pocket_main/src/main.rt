@@ -2,12 +2,18 @@
 //! join the host's streams, port, clock and random words to the top calls.
 #![tactic(auto)]
 
+ghost use Rattle.std.specs.Prelude.{◌≡◌, ◌⊎◌, Some, map};
+ghost use Rattle.std.specs.String.{string_bytes};
+ghost use Rattle.pocket_words.specs.Words.{command_of};
+ghost use Rattle.pocket_main.specs.Outcomes.{IsOutcomeOf};
+
 mod keepers;
+mod outcome;
 mod pipe;
 mod serve;
 
+use outcome::Outcome;
 use pocket::{Command, RunEnd, WordFault, read_words};
-use std::alloc::Global;
 use std::io::ErrorKind;
 use std::net::{Net, TcpListener, TcpStream};
 use std::process::ExitCode;
@@ -15,8 +21,6 @@ use std::rt::Env;
 use std::sync::Wait;
 use std::thread::Threads;
 use std::{env, io};
-
-const USAGE: &str = "usage: pocket pipe|serve|load|check";
 
 /// The words after the program's name.
 fn words_of(rt: &(impl Env + AllocGlobal)) -> io::Result<Vec<String>> {
@@ -27,66 +31,60 @@ fn words_of(rt: &(impl Env + AllocGlobal)) -> io::Result<Vec<String>> {
     Ok(words)
 }
 
-/// The words and the command that they give. One that isn't UTF-8 is a bad one.
-fn command_of(
-    rt: &(impl Env + AllocGlobal),
-    alloc: Global,
-) -> Result<(Vec<String>, Command), WordFault> {
-    match words_of(rt) {
-        Ok(words) => {
-            let command = read_words(alloc, words.as_slice())?;
-            Ok((words, command))
-        }
-        Err(fault) if fault.kind() == ErrorKind::OutOfMemory => Err(WordFault::Memory),
-        Err(_) => Err(WordFault::BadWords),
-    }
-}
-
-/// Says on standard error how a run ended that didn't end well, and gives its exit status.
-pub(crate) fn report(rt: &impl Eprint, ended: &RunEnd) -> u8 {
-    let _ = match ended {
-        RunEnd::Words => eprintln!(rt; "{USAGE}"),
-        _ if ended.code() == 0 => Ok(()),
-        _ => eprintln!(rt; "pocket: {ended}"),
-    };
-    ended.code()
-}
-
-/// Runs the command that the words give. The load and the check aren't there yet, so their words are no command here.
-fn run<H: Threads + Wait + Sync + Net<Listener = TcpListener, Stream = TcpStream>>(
+/// Runs the command that these words give. The load and the check aren't there yet, so theirs are bad words here.
+fn run_command<H: Threads + Wait + Sync + Net<Listener = TcpListener, Stream = TcpStream>>(
     rt: &HostRuntime,
     handle: &H,
-) -> u8 {
-    let (words, command) = match command_of(rt, rt.alloc()) {
-        Ok(given) => given,
-        Err(WordFault::BadWords) => return report(rt, &RunEnd::Words),
-        Err(WordFault::Memory) => return report(rt, &RunEnd::Memory),
-    };
+    words: &[String],
+    command: Command,
+) -> Outcome
+    ensures { IsOutcomeOf (Some command) result }
+{
     match command {
         Command::Pipe {
             admin: _,
             store,
             sample,
-        } => pipe::run(rt, words.as_slice(), store, sample),
+        } => Outcome::Ended(pipe::run(rt, words, store, sample)),
         Command::Serve {
             admin: _,
             port,
             workers,
             connections,
             store,
-        } => serve::run(
-            rt,
-            handle,
-            words.as_slice(),
-            port,
-            workers,
-            connections,
-            store,
-        ),
-        _ => report(rt, &RunEnd::Words),
+        } => serve::run(rt, handle, words, port, workers, connections, store),
+        Command::Load { start: _, count: _ } | Command::Check => Outcome::Ended(RunEnd::Words),
+    }
+}
+
+/// Runs the program with these words. The second handle is the same runtime, as what starts threads and listens.
+fn run_words<H: Threads + Wait + Sync + Net<Listener = TcpListener, Stream = TcpStream>>(
+    rt: &HostRuntime,
+    handle: &H,
+    words: &[String],
+) -> Outcome
+    ensures { (result ≡ Outcome.Ended RunEnd.Memory) ⊎ IsOutcomeOf (command_of (map string_bytes words.now)) result }
+{
+    match read_words(rt.alloc(), words) {
+        Ok(command) => run_command(rt, handle, words, command),
+        Err(WordFault::BadWords) => Outcome::Ended(RunEnd::Words),
+        Err(WordFault::Memory) => Outcome::Ended(RunEnd::Memory),
+    }
+}
+
+/// Runs the program with the host's words. One that isn't UTF-8 is a bad one.
+fn run<H: Threads + Wait + Sync + Net<Listener = TcpListener, Stream = TcpStream>>(
+    rt: &HostRuntime,
+    handle: &H,
+) -> Outcome {
+    match words_of(rt) {
+        Ok(words) => run_words(rt, handle, words.as_slice()),
+        Err(fault) if fault.kind() == ErrorKind::OutOfMemory => Outcome::Ended(RunEnd::Memory),
+        Err(_) => Outcome::Ended(RunEnd::Words),
     }
 }
 
 fn main(rt: HostRuntime) -> ExitCode {
-    ExitCode::from(run(&rt, &rt))
+    let outcome = run(&rt, &rt);
+    ExitCode::from(outcome.report(&rt))
 }

@@ -1,14 +1,23 @@
 // Requests of standard input, answered on standard output.
-use crate::keepers::{file_keeper, memory_keeper};
-use crate::report;
-use pocket::{RunEnd, run_plain};
-use pocket_keeper::Keeper;
+ghost use Rattle.std.specs.Prelude.{◌≡◌, ℕ, List, map};
+ghost use Rattle.std.specs.String.{string_bytes};
+ghost use Rattle.pocket.specs.Runs.{AreRead, IsPipeEnd};
+ghost use Rattle.pocket.specs.Words.{IsPipe};
+
+use crate::keepers::{HostKeeper, open_keeper};
+use pocket::{RunEnd, Status, run_plain};
+use pocket_keeper::Committer;
 use pocket_types::Text;
 use pocket_wire::{HostClock, HostDice, HostSink, HostSource};
 use std::io;
 
 /// Answers the requests over a keeper.
-fn run_over<K: Keeper>(rt: &HostRuntime, words: &[String], keeper: &mut K) -> u8 {
+fn run_over(rt: &HostRuntime, words: &[String], keeper: &mut HostKeeper) -> RunEnd
+    ensures words { AreRead (IsPipe (map string_bytes words.now)) result }
+    ensures ended { IsPipeEnd (map string_bytes words.now) (⟦<HostKeeper as Committer>⟧.rows keeper.old)
+        (⟦<HostKeeper as Committer>⟧.rows keeper.new) (⟦<HostKeeper as Committer>⟧.faults keeper.old)
+        (⟦<HostKeeper as Committer>⟧.faults keeper.new) result }
+{
     let mut source = HostSource {
         inner: rt.reader(),
         faults: 0,
@@ -19,7 +28,11 @@ fn run_over<K: Keeper>(rt: &HostRuntime, words: &[String], keeper: &mut K) -> u8
     };
     let mut clock = HostClock::new(*rt);
     let mut dice = HostDice::new(*rt);
-    let status = run_plain(
+    let Status {
+        ended,
+        turns: _,
+        journal: _,
+    } = run_plain(
         rt.alloc(),
         words,
         &mut source,
@@ -28,19 +41,15 @@ fn run_over<K: Keeper>(rt: &HostRuntime, words: &[String], keeper: &mut K) -> u8
         &mut clock,
         &mut dice,
     );
-    report(rt, &status.ended)
+    ended
 }
 
 /// Runs `pipe` with these words, over a file or over memory.
-pub fn run(rt: &HostRuntime, words: &[String], store: Option<Text>, sample: bool) -> u8 {
-    match store {
-        Some(file) => match file_keeper(rt, &file) {
-            Ok(mut keeper) => run_over(rt, words, &mut keeper),
-            Err(ended) => report(rt, &ended),
-        },
-        None => match memory_keeper(rt.alloc(), sample) {
-            Ok(mut keeper) => run_over(rt, words, &mut keeper),
-            Err(_) => report(rt, &RunEnd::Memory),
-        },
+pub fn run(rt: &HostRuntime, words: &[String], store: Option<Text>, sample: bool) -> RunEnd
+    ensures refused { result ≡ RunEnd.Words → (token : List ℕ) → ¬ IsPipe (map string_bytes words.now) token }
+{
+    match open_keeper(rt, store, sample) {
+        Ok(mut keeper) => run_over(rt, words, &mut keeper),
+        Err(ended) => ended,
     }
 }

@@ -1,17 +1,23 @@
 // A server on a port of 127.0.0.1.
-use crate::keepers::{file_keeper, memory_keeper};
-use crate::report;
-use pocket::{Closed, HostAcceptor, RunEnd, ServeStatus, run_serve};
-use pocket_keeper::Keeper;
+ghost use Rattle.std.specs.Prelude.{◌≡◌, ℕ, All, IfOk, None, vec_len};
+ghost use Rattle.pocket_main.specs.Outcomes.{IsServedBy};
+
+use crate::keepers::{HostKeeper, open_keeper};
+use crate::outcome::Outcome;
+use pocket::{HostAcceptor, RunEnd, run_serve};
 use pocket_serve::{Hand, NoGate};
 use pocket_types::Text;
-use pocket_wire::{Ended, HostClock, HostDice};
+use pocket_wire::{HostClock, HostDice};
 use std::alloc::AllocError;
 use std::net::{Ipv4Addr, Net, TcpListener, TcpStream};
 use std::sync::Wait;
 use std::thread::Threads;
 
-type HostHand = Hand<HostAcceptor, HostClock<HostRuntime>, HostDice<HostRuntime>>;
+type HostHand = Hand<
+    HostAcceptor<Option<TcpListener>>,
+    HostClock<HostRuntime>,
+    HostDice<HostRuntime>,
+>;
 
 /// Listens on the port, and says on standard error that it does or why it can't.
 fn listen(
@@ -32,62 +38,78 @@ fn listen(
 }
 
 /// Another handle of the same port.
-fn handle_of(listener: &Option<TcpListener>) -> Option<TcpListener> {
-    match listener {
-        Some(listener) => listener.try_clone().ok(),
-        None => None,
+fn handle_of(listener: &Option<TcpListener>) -> Option<TcpListener>
+    ensures { listener.now ≡ None → result ≡ None }
+{
+    listener.as_ref()?.try_clone().ok()
+}
+
+/// A hand over the port, which takes so many connections.
+fn hand_over(rt: &HostRuntime, listener: &Option<TcpListener>, connections: u64) -> HostHand
+    ensures left { result.acceptor.left ≡ connections }
+    ensures port { listener.now ≡ None → result.acceptor.listener ≡ None }
+{
+    Hand {
+        acceptor: HostAcceptor {
+            listener: handle_of(listener),
+            left: connections,
+            faults: 0,
+        },
+        clock: HostClock::new(*rt),
+        dice: HostDice::new(*rt),
     }
 }
 
-/// A hand for each worker, all over one listener, each of which takes so many connections.
+/// A hand for each worker, all over one port, each of which takes so many connections.
 fn hands_over(
     rt: &HostRuntime,
     listener: &Option<TcpListener>,
     workers: u32,
     connections: u64,
-) -> Result<Vec<HostHand>, AllocError> {
+) -> Result<Vec<HostHand>, AllocError>
+    ensures workers { IfOk result (λ hands. vec_len hands ≡ workers) }
+    ensures connections { IfOk result (λ hands. All (λ hand. hand.acceptor.left ≡ connections) hands.items) }
+    ensures port { listener.now ≡ None → IfOk result (λ hands. All (λ hand. hand.acceptor.listener ≡ None) hands.items) }
+{
     let mut hands = Vec::new(rt.alloc());
     for _ in 0..workers {
-        hands.push(Hand {
-            acceptor: HostAcceptor {
-                listener: handle_of(listener),
-                left: connections,
-                faults: 0,
-            },
-            clock: HostClock::new(*rt),
-            dice: HostDice::new(*rt),
-        })?;
+        hands.push(hand_over(rt, listener, connections))?;
     }
     Ok(hands)
 }
 
-/// Says how the server ended: on standard output how many commands it accepted, on standard error what didn't go well.
-fn report_serve(rt: &HostRuntime, status: &ServeStatus, accepted: usize) -> u8 {
-    let RunEnd::Session(Ended::Done) = status.started else {
-        return report(rt, &status.started);
-    };
-    if println!(rt; "history {accepted}").is_err() {
-        return report(rt, &RunEnd::SinkFault);
-    }
-    if status.code() != 0 {
-        let _ = eprintln!(rt; "pocket: a worker ended since it couldn't accept a connection");
-    }
-    status.code()
+/// Listens on the port, with a hand for each worker, each of which takes so many connections.
+fn hands_on(
+    rt: &HostRuntime,
+    net: &impl Net<Listener = TcpListener, Stream = TcpStream>,
+    port: u16,
+    workers: u32,
+    connections: u64,
+) -> Result<Vec<HostHand>, AllocError>
+    ensures workers { IfOk result (λ hands. vec_len hands ≡ workers) }
+    ensures connections { IfOk result (λ hands. All (λ hand. hand.acceptor.left ≡ connections) hands.items) }
+{
+    let listener = listen(rt, net, port);
+    hands_over(rt, &listener, workers, connections)
 }
 
-/// Serves over a keeper.
-fn run_over<H: Threads + Wait + Sync, K: Keeper + Send + Drop>(
+/// Serves with these hands over a keeper.
+fn run_over<H: Threads + Wait + Sync>(
     rt: &HostRuntime,
     handle: &H,
     words: &[String],
     hands: Vec<HostHand>,
-    keeper: K,
-) -> u8 {
+    keeper: HostKeeper,
+) -> Outcome
+    ensures { (connections : ℕ) → All (λ hand. hand.acceptor.left ≡ connections) hands.items
+        → IsServedBy (vec_len hands) connections result }
+{
     let (status, closed) = run_serve(handle, rt.alloc(), words, hands, keeper, &NoGate);
-    report_serve(rt, &status, closed.journal.len())
+    Outcome::Served(status, closed.journal.len())
 }
 
-/// Runs `serve` with these words, over a file or over memory. The second handle is the same runtime, as what starts threads and listens.
+/// Runs `serve` with these words, over a file or over memory. The second handle is the same runtime, as what starts
+/// threads and listens.
 pub fn run<H: Threads + Wait + Sync + Net<Listener = TcpListener, Stream = TcpStream>>(
     rt: &HostRuntime,
     handle: &H,
@@ -96,19 +118,14 @@ pub fn run<H: Threads + Wait + Sync + Net<Listener = TcpListener, Stream = TcpSt
     workers: u32,
     connections: u64,
     store: Option<Text>,
-) -> u8 {
-    let listener = listen(rt, handle, port);
-    let Ok(hands) = hands_over(rt, &listener, workers, connections) else {
-        return report(rt, &RunEnd::Memory);
+) -> Outcome
+    ensures { IsServedBy workers connections result }
+{
+    let Ok(hands) = hands_on(rt, handle, port, workers, connections) else {
+        return Outcome::Ended(RunEnd::Memory);
     };
-    match store {
-        Some(file) => match file_keeper(rt, &file) {
-            Ok(keeper) => run_over(rt, handle, words, hands, keeper),
-            Err(ended) => report(rt, &ended),
-        },
-        None => match memory_keeper(rt.alloc(), false) {
-            Ok(keeper) => run_over(rt, handle, words, hands, keeper),
-            Err(_) => report(rt, &RunEnd::Memory),
-        },
+    match open_keeper(rt, store, false) {
+        Ok(keeper) => run_over(rt, handle, words, hands, keeper),
+        Err(ended) => Outcome::Ended(ended),
     }
 }

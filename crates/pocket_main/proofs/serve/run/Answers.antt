@@ -1,6 +1,8 @@
-use denote.Param.Send.{sendable}
-use Rattle.pocket_sqlite.proofs.Crossing.{keeper_send}
+use Rattle.std.proofs.Common.{subst}
+use Rattle.pocket_main.specs.Outcomes.{IsServedBy}
 use Rattle.pocket_main.proofs.serve.run.Goals as goal
 
-pub run_over-requires-send-K : goal.run_over-requires-send-K
-run_over-requires-send-K g c κs within = search (sendable, keeper_send) depth 20
+pub returns-in-Ok-open_keeper : goal.returns-in-Ok-open_keeper
+returns-in-Ok-open_keeper g c =
+    subst (λ workers. IsServedBy workers c.args.connections c.run_over.result) c.in-Ok.ensures.workers
+    (c.run_over.ensures c.args.connections c.in-Ok.ensures.connections)
