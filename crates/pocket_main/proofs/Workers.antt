@@ -41,22 +41,23 @@ module _ {H : Type 0} (view : H → HandView) (fits enters : List Work → Work 
   as_many Q end most (inl faulted) = inl faulted
   as_many Q end most (inr over) = inr (most over)
 
-  one_served : (old new : HandView) (end : WorkerEnd) → old.acceptor.waiting ≡ connections → IsWorked fits enters follows history old new end
-      → HasServed connections end
-  one_served old new end left worked =
+  one_served : (old new : HandView) (end : WorkerEnd) (entered : List Work) → old.acceptor.waiting ≡ connections
+      → IsWorked fits enters follows history old new end entered → HasServed connections end
+  one_served old new end entered left worked =
       let run = worked.run in
       as_many (new.acceptor.waiting ≡ 0) end (λ over. omega (arith, left, over, run.connections_are, run.served.left))
       (faulted_or (Rose old.acceptor.faults new.acceptor.faults) (new.acceptor.waiting ≡ 0) end.faulted run.over)
 
   -- each worker served as many connections as its hand takes, or ended for a fault, and each hand had one
-  pub all_served : (hands : List H) (news : List HandView) (ends : List WorkerEnd) → All Takes hands
-      → AreWorked fits enters follows history (map view hands) news ends → (length ends ≡ length hands) × All (HasServed connections) ends
-  all_served [] [] [] left worked = (refl, All-nil (HasServed connections))
-  all_served (hand ∷ hands) (new ∷ news) (end ∷ ends) left (worked, rest) =
-      let first = one_served (view hand) new end (All-head Takes hand hands left) worked in
-      let others = all_served hands news ends (All-tail Takes hand hands left) rest in
+  pub all_served : (hands : List H) (news : List HandView) (ends : List WorkerEnd) (entered : List Work) → All Takes hands
+      → AreWorked fits enters follows history (map view hands) news ends entered
+      → (length ends ≡ length hands) × All (HasServed connections) ends
+  all_served [] [] [] entered left worked = (refl, All-nil (HasServed connections))
+  all_served (hand ∷ hands) (new ∷ news) (end ∷ ends) entered left (own, theirs, between, worked, rest) =
+      let first = one_served (view hand) new end own (All-head Takes hand hands left) worked in
+      let others = all_served hands news ends theirs (All-tail Takes hand hands left) rest in
       (ap suc others.0, All-cons (HasServed connections) end ends first others.1)
-  all_served [] [] (end ∷ ends) left bad = absurd bad
-  all_served [] (new ∷ news) ends left bad = absurd bad
-  all_served (hand ∷ hands) [] ends left bad = absurd bad
-  all_served (hand ∷ hands) (new ∷ news) [] left bad = absurd bad
+  all_served [] [] (end ∷ ends) entered left bad = absurd bad
+  all_served [] (new ∷ news) ends entered left bad = absurd bad
+  all_served (hand ∷ hands) [] ends entered left bad = absurd bad
+  all_served (hand ∷ hands) (new ∷ news) [] entered left bad = absurd bad
