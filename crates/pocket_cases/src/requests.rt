@@ -77,7 +77,7 @@ pub fn request(alloc: Global, bytes: &[u8]) -> Result<String, Trouble> {
     )
 }
 
-/// The phrase of a status, empty where no reply has it.
+/// The phrase of a status, empty where it has none.
 pub fn phrase(alloc: Global, text: &str) -> Result<String, Trouble> {
     let status = text.parse::<u16>().ok().ok_or("no status")?;
     Ok(String::from_str(alloc, status_phrase(status))?)

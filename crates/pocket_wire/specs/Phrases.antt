@@ -1,6 +1,7 @@
 -- The statuses of replies, their phrases, and the reply to a request that isn't read (RFC 9112, section 4).
-use Rattle.std.specs.Prelude.{ℕ, ◌==◌, List, [], ◌∷◌, ◌++◌, codes, IsTrue, decimal, if◌then◌else◌}
+use Rattle.std.specs.Prelude.{ℕ, ◌==◌, List, [], ◌∷◌, ◌++◌, codes, IsTrue, decimal, unwrap_or}
 use Rattle.std.specs.List.{list_any}
+use Rattle.http.specs.StatusCode.{reason_phrase}
 
 -- the statuses that a reply has
 abbrev pub reply_statuses : List ℕ
@@ -10,22 +11,9 @@ reply_statuses = 200 ∷ 204 ∷ 400 ∷ 401 ∷ 403 ∷ 404 ∷ 413 ∷ 431 ∷
 abbrev pub IsReplyStatus : ℕ → Type 0
 IsReplyStatus status = IsTrue (list_any (λ s. s == status) reply_statuses)
 
--- the phrase of a status
+-- the phrase of a status, which is the usual one; empty where it has none
 unfoldable pub phrase : ℕ → List ℕ
-phrase status =
-    if status == 200 then codes "OK"
-    else if status == 204 then codes "No Content"
-    else if status == 400 then codes "Bad Request"
-    else if status == 401 then codes "Unauthorized"
-    else if status == 403 then codes "Forbidden"
-    else if status == 404 then codes "Not Found"
-    else if status == 413 then codes "Payload Too Large"
-    else if status == 431 then codes "Request Header Fields Too Large"
-    else if status == 500 then codes "Internal Server Error"
-    else if status == 501 then codes "Not Implemented"
-    else if status == 503 then codes "Service Unavailable"
-    else if status == 507 then codes "Insufficient Storage"
-    else []
+phrase status = unwrap_or (reason_phrase status) []
 
 -- the end of a line
 abbrev pub line_end : List ℕ

@@ -149,15 +149,15 @@ fn length_of_body(lines: &[u8], fields: &[HeaderSpan]) -> Option<usize>
 fn method_named(name: &[u8]) -> Option<Method>
     ensures { result ≡ method_of name.now }
 {
-    if name == b"GET".as_slice() {
+    if name == http::Method::GET.as_str().as_bytes() {
         Some(Method::Get)
-    } else if name == b"POST".as_slice() {
+    } else if name == http::Method::POST.as_str().as_bytes() {
         Some(Method::Post)
-    } else if name == b"PATCH".as_slice() {
+    } else if name == http::Method::PATCH.as_str().as_bytes() {
         Some(Method::Patch)
-    } else if name == b"PUT".as_slice() {
+    } else if name == http::Method::PUT.as_str().as_bytes() {
         Some(Method::Put)
-    } else if name == b"DELETE".as_slice() {
+    } else if name == http::Method::DELETE.as_str().as_bytes() {
         Some(Method::Delete)
     } else {
         None

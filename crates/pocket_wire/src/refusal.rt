@@ -1,28 +1,21 @@
 ghost use Rattle.std.specs.Prelude.{◌≡◌, ◌++◌, IfOk, OnOk, codes, vec_len, decimal};
 ghost use Rattle.pocket_wire.specs.Phrases.{IsReplyStatus, phrase, refused_bytes, status_line};
 
+use http::StatusCode;
 use pocket_types::Seq;
 use std::alloc::{AllocError, Global};
 
-/// The phrase of a status that a reply has.
+/// The phrase of a status, empty where it has none.
 #[tactic(auto, unfolding(crate::specs::Phrases::phrase))]
 pub fn status_phrase(status: u16) -> &'static str
     ensures { result.now ≡ phrase status }
 {
-    match status {
-        200 => "OK",
-        204 => "No Content",
-        400 => "Bad Request",
-        401 => "Unauthorized",
-        403 => "Forbidden",
-        404 => "Not Found",
-        413 => "Payload Too Large",
-        431 => "Request Header Fields Too Large",
-        500 => "Internal Server Error",
-        501 => "Not Implemented",
-        503 => "Service Unavailable",
-        507 => "Insufficient Storage",
-        _ => "",
+    match StatusCode::from_u16(status) {
+        Ok(code) => match code.canonical_reason() {
+            Some(phrase) => phrase,
+            None => "",
+        },
+        Err(_) => "",
     }
 }
 
