@@ -13,11 +13,11 @@ ghost use Rattle.pocket_core.specs.Changing.{change_why, created_in, updated_in}
 ghost use Rattle.pocket_core.specs.Courses.{GivesPlan, NamesCollection};
 
 use crate::lists::verdict_why;
-use crate::views::find_collection;
 use pocket_api::{Body, Target, Why};
 use pocket_change::laws::{created_records_may_be_put, updated_records_may_be_put};
 use pocket_change::{ChangeFault, plan_create, plan_update, refuse_update};
 use pocket_gate::Rules;
+use pocket_resolve::collection_named;
 use pocket_tables::Tables;
 use pocket_types::{Ask, Delta, Id, Jv, Name, Steps, Text};
 use std::alloc::Global;
@@ -57,7 +57,7 @@ fn body_tree(body: &Option<Body>) -> Option<&Jv>
 fn found_name(tables: &Tables, text: &Text) -> Result<Name, Why>
     ensures { NamesCollection tables.now.world text.now result }
 {
-    match find_collection(tables.collections(), text.as_str()) {
+    match collection_named(tables.collections(), text.as_str()) {
         Some(collection) => match collection.name.clone() {
             Ok(name) => Ok(name),
             Err(_) => Err(Why::Memory),

@@ -26,10 +26,11 @@ use crate::callers::{Rest, put_together};
 use crate::courses::Plan;
 use crate::refusals::refuse;
 use crate::showing::{Display, display_rec};
-use crate::views::{find_collection, printed};
+use crate::views::printed;
 use pocket_api::{Reply, Why, Work};
 use pocket_gate::Rules;
 use pocket_keeper::{Committer, KeepFault, KeptRow, row_of_rec};
+use pocket_resolve::collection_named;
 use pocket_tables::Tables;
 use pocket_tables::laws::deltas_are_made_at_once;
 use pocket_types::{Ask, Collection, Delta, Rec, Seq, Steps};
@@ -185,7 +186,7 @@ fn prepare<L: Ledger>(
     let Some(change) = back.recs.get(0) else {
         unreachable!()
     };
-    let Some(collection) = find_collection(tables.collections(), change.collection.as_str()) else {
+    let Some(collection) = collection_named(tables.collections(), change.collection.as_str()) else {
         unreachable!()
     };
     let Some(rec) = tables.rec(&change.collection, change.id, steps) else {

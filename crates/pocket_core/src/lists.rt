@@ -13,11 +13,12 @@ ghost use Rattle.pocket_core.specs.Showing.{display_of, displayed, shown_of};
 
 use crate::refusals::refuse;
 use crate::showing::{Display, display_of, display_rec};
-use crate::views::{find_collection, printed};
+use crate::views::printed;
 use pocket_api::{ListQuery, Reply, Why};
 use pocket_gate::{Rules, Verdict};
 use pocket_ops::push_member;
 use pocket_read::{Page, ReadFault, list};
+use pocket_resolve::collection_named;
 use pocket_tables::Tables;
 use pocket_types::{Ask, Collection, Id, Jv, Member, Rec, Seq, Steps, Text};
 use std::alloc::{AllocError, Global};
@@ -248,7 +249,7 @@ pub(crate) fn answer_list<L: Ledger>(
     ensures reply { IfOk result (IsAnswer (answer_of at (list_outcome tables.now.world ask.now name.now query.now))) }
     ensures steps { steps.old ≤ steps.new }
 {
-    match find_collection(tables.collections(), name.as_str()) {
+    match collection_named(tables.collections(), name.as_str()) {
         Some(collection) => answer_listed(alloc, tables, rules, ask, collection, query, at, steps),
         None => refuse(alloc, Why::NoCollection, at),
     }

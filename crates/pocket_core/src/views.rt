@@ -17,22 +17,11 @@ use crate::refusals::refuse;
 use crate::showing::shown_rec;
 use pocket_api::{Reply, Shown, Target, Why};
 use pocket_gate::{Rules, Verdict, is_locked_for};
+use pocket_resolve::collection_named;
 use pocket_tables::Tables;
 use pocket_types::{Action, Ask, Collection, Id, Jv, Name, Rec, Steps, Text};
 use std::alloc::{AllocError, Global};
 use std::sync::ledger::Ledger;
-
-/// The collection of this name.
-pub(crate) fn find_collection<'a>(
-    collections: &'a [Collection],
-    name: &str,
-) -> Option<&'a Collection>
-    ensures { option_copied result ≡ collection_named collections.now name.now }
-{
-    collections
-        .iter()
-        .find(|collection| collection.name.as_str() == name)
-}
 
 /// The record of this id. A text that isn't an id's form is no record's.
 fn find_rec<'a, L: Ledger>(
@@ -146,7 +135,7 @@ pub(crate) fn answer_view<L: Ledger>(
     ensures reply { IfOk result (IsAnswer (answer_of at (view_outcome tables.now.world ask.now target.now shown.now))) }
     ensures steps { steps.old ≤ steps.new }
 {
-    let Some(collection) = find_collection(tables.collections(), target.collection.as_str()) else {
+    let Some(collection) = collection_named(tables.collections(), target.collection.as_str()) else {
         return refuse(alloc, Why::NoCollection, at);
     };
     if is_locked_for(&ask.caller, &collection.view_rule) {
